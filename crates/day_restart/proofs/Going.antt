@@ -21,6 +21,7 @@ use Rattle.desk_replay.specs.declared.fault.ReplayFault.{ReplayFault}
 use Rattle.desk_replay.specs.declared.links.OpenLink.{OpenLink}
 use Rattle.desk_replay.specs.Links.{gone_at, open_in}
 use Rattle.desk_replay.specs.Replay.{OthersFrom, Replays}
+use Rattle.desk_replay.proofs.Gone.{none-open}
 use Rattle.day_restart.specs.declared.fault.ResumeFault.{ResumeFault}
 use Rattle.day_restart.specs.declared.fault.ResumeFault.TheVariants as faults
 use Rattle.day_restart.specs.Resumed.{GoesOnWith, HasOthers, IsOver, IsRefused, IsStepped, IsUnended, damage_of, torn_by}
@@ -75,10 +76,14 @@ pub stepped-is : (s : Settings) (day : Kept) (at : ℕ) (first last : Recorded) 
     → HistoryGoesOn first last → Holds last.settings (turns last.kept) → IsStepped s day at last links
 stepped-is s day at first last events links again same are more on holds =
     let settings : last.settings ≡ s = on.settings ∙ again.settings in
+    let all : last.kept.events ≡ day.events ++ map (gone_at at) links =
+    more ∙ ap (λ (es : List Event). es ++ map (gone_at at) links) again.events in
+    let open_ones : links ≡ open_in day.events = are ∙ ap open_in same in
     record {
       settings = settings;
-      links = are ∙ ap open_in same;
-      events = more ∙ ap (λ (es : List Event). es ++ map (gone_at at) links) again.events;
+      links = open_ones;
+      events = all;
+      gone = ap open_in (all ∙ ap (λ (ls : List OpenLink). day.events ++ map (gone_at at) ls) open_ones) ∙ none-open at day.events;
       batches = subst (λ (bs : List Batch). IsPrefix bs last.kept.batches) again.batches on.batches;
       before = again.holds;
       whole = subst (λ (z : Settings). Holds z (turns last.kept)) settings holds;

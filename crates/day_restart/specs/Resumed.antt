@@ -1,5 +1,5 @@
 -- A day's file that is gone on with.
-use Rattle.std.specs.Prelude.{◌≡◌, ◌+◌, ℕ, List, ◌++◌, length, map}
+use Rattle.std.specs.Prelude.{◌≡◌, ◌+◌, ℕ, List, [], ◌++◌, length, map}
 use mathlib.Core.List.{IsPrefix}
 use Rattle.gate_journal.specs.gate_law.Settings.{Settings}
 use Rattle.gate_journal.specs.gate_law.Holds.{Holds}
@@ -31,12 +31,13 @@ pub record IsUnended (file : List ℕ) (day : Kept) (torn : ℕ) : Type 0 where
   pub is : torn ≡ torn_by ending
 
 -- The day is a run by these settings; the core goes on behind it, and behind the goings of just the links that were up
--- at its end, at this moment. All that is promised of a run holds of the whole.
+-- at its end, at this moment, so that no link is up. All that is promised of a run holds of the whole.
 pub record IsStepped (settings : Settings) (day : Kept) (at : ℕ) (recorded : Recorded) (links : List OpenLink)
     : Type 0 where
   pub settings : recorded.settings ≡ settings
   pub links : links ≡ open_in day.events
   pub events : recorded.kept.events ≡ day.events ++ map (gone_at at) links
+  pub gone : open_in recorded.kept.events ≡ []
   pub batches : IsPrefix day.batches recorded.kept.batches
   pub before : Holds settings (turns day)
   pub whole : Holds settings (turns recorded.kept)

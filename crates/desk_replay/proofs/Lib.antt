@@ -1,2 +1,3 @@
 mod Going
+pub mod Gone
 mod Same

@@ -3,4 +3,5 @@ mod Grown
 mod One
 mod Parted
 mod Reads
+mod Standing
 mod Summed
