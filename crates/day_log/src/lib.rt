@@ -4,9 +4,11 @@
 
 mod fault;
 mod file;
+mod laws;
 mod log;
 mod sized;
 
 pub use fault::{LogFault, WriteFault};
 pub use file::LogFile;
+pub use laws::acknowledged_pages_are_read;
 pub use log::DayLog;

@@ -9,7 +9,9 @@ ghost use Rattle.day_restart.specs.Resumed.{GoesOnWith, IsRefused, IsStepped, Is
 ghost use Rattle.day_restart.specs.declared.fault.ResumeFault.TheVariants.{Over};
 
 use crate::fault::ResumeFault;
-use desk_replay::{OpenLink, RecordedCore, ReplayFault, Settings, open_links, replayed, step_gones};
+use desk_replay::{
+    OpenLink, RecordedCore, ReplayFault, Settings, open_links, replayed, step_gones,
+};
 use gate_journal::History;
 use journal_file::{DayFile, Ending, FileFault, PageFault, read_file};
 use std::alloc::Global;

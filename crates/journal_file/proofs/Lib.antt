@@ -2,6 +2,6 @@ pub mod Files
 mod Grown
 mod One
 mod Parted
-mod Reads
+pub mod Reads
 mod Standing
 mod Summed

@@ -66,7 +66,13 @@ fn a_day_that_is_over(rt: HostRuntime) -> Result<(), Fail> {
     assert!(rt; whole.err() == Some(ResumeFault::Over));
     assert!(rt; file.len() > 16);
     for cut in file.len() - 16..file.len() {
-        goes_on(&rt, alloc, &file[..cut], turns, cut.saturating_sub(file.len() - 16))?;
+        goes_on(
+            &rt,
+            alloc,
+            &file[..cut],
+            turns,
+            cut.saturating_sub(file.len() - 16),
+        )?;
     }
     Ok(())
 }

@@ -49,7 +49,9 @@ impl LogFile for MemoryFile {
     ghost faults = { λ f. length f.failures.bytes };
 
     fn append(&mut self, bytes: &[u8]) -> Result<(), WriteFault> {
-        if is_failing(&mut self.calls_left) || keep(&mut self.contents, self.bytes.as_slice()).is_err() {
+        if is_failing(&mut self.calls_left)
+            || keep(&mut self.contents, self.bytes.as_slice()).is_err()
+        {
             self.failures.note(&[1]);
             return Err(WriteFault);
         }

@@ -30,7 +30,13 @@ one-more n m kind r s rs ss left right behind further same first second equal is
 
 pub part-here : (n : ℕ) (rs ss left right : List Record) → SameSoFar n rs ss left right → FirstDiffer left right → DifferBehind n rs ss
 part-here n rs ss left right same apart = record {
-  front = same.front; left = left; right = right; first = same.first; second = same.second; apart = apart; count = same.count;
+  front = same.front;
+  left = left;
+  right = right;
+  first = same.first;
+  second = same.second;
+  apart = apart;
+  count = same.count;
 }
 
 pub differ-both : (r s : Record) (left right behind further : List Record) → left ≡ r ∷ behind → right ≡ s ∷ further → (r ≡ s → ⊥) → FirstDiffer left right
