@@ -2,6 +2,7 @@
 
 ghost use Rattle.std.specs.Prelude.{◌≡◌, ◌++◌, map, IfOk, OnOk};
 ghost use Rattle.desk_steps.specs.Settling.{HistoryGoesOn};
+ghost use Rattle.desk_replay.specs.declared.links.OpenLink.TheVariants as kinds;
 ghost use Rattle.desk_replay.specs.Links as spec;
 ghost use Rattle.desk_replay.specs.Links.{gone_at, open_after, open_in, with_link, without};
 
@@ -24,14 +25,29 @@ impl OpenLink {
     pub fn is_same(&self, other: &OpenLink) -> bool
         ensures { result ≡ spec.is_same_link self.now other.now }
     {
-        match (self, other) {
-            (OpenLink::Client { client, link }, OpenLink::Client { client: c, link: l }) => {
-                client.number() == c.number() && *link == *l
-            }
-            (OpenLink::Port { port, link }, OpenLink::Port { port: p, link: l }) => {
-                port.number() == p.number() && *link == *l
-            }
-            _ => false,
+        match self {
+            OpenLink::Client { client, link } => other.is_client(*client, *link),
+            OpenLink::Port { port, link } => other.is_port(*port, *link),
+        }
+    }
+
+    /// Whether it is this link of a client.
+    fn is_client(&self, number: ClientNumber, of: u64) -> bool
+        ensures { result ≡ spec.is_same_link (kinds.Client number of) self.now }
+    {
+        match self {
+            OpenLink::Client { client, link } => number.number() == client.number() && of == *link,
+            OpenLink::Port { .. } => false,
+        }
+    }
+
+    /// Whether it is this link of a port.
+    fn is_port(&self, number: PortNumber, of: u64) -> bool
+        ensures { result ≡ spec.is_same_link (kinds.Port number of) self.now }
+    {
+        match self {
+            OpenLink::Client { .. } => false,
+            OpenLink::Port { port, link } => number.number() == port.number() && of == *link,
         }
     }
 

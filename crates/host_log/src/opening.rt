@@ -136,10 +136,11 @@ fn sync_folder<R: Files<File = File>>(rt: &R, path: &str) -> Result<(), OpenFaul
 
 /// The folder of a file.
 fn folder_of(path: &str) -> &str {
-    match Path::new(path).parent() {
-        Some(folder) if !folder.as_str().is_empty() => folder.as_str(),
-        _ => ".",
-    }
+    let Some(folder) = Path::new(path).parent() else {
+        return ".";
+    };
+    let folder = folder.as_str();
+    if folder.is_empty() { "." } else { folder }
 }
 
 /// Leaves so many bytes of a file, and has them durable.
