@@ -1,8 +1,10 @@
 -- What a file says is refused for nothing, and it is the beginning of what was written.
-use Rattle.std.proofs.Common.{◌≡◌, ◌≤◌, ◌<◌, ◌^◌, ℕ, ◌+◌, Bool, true, false, Option, Some, None, List, [], ◌∷◌, ◌++◌, length, take, drop, inl, inr, refl, sym, ap, subst, ◌∙◌, arith, append_assoc, append-nil, length-append}
+use Rattle.std.proofs.Common.{◌≡◌, ◌≤◌, ◌<◌, ◌^◌, ℕ, ◌+◌, Bool, true, false, Option, Some, None, List, [], ◌∷◌, ◌++◌, length, take, drop, inl, inr, refl, sym, ap, subst, ◌∙◌, arith, append_assoc, append-nil, length-append, length-drop}
 use Rattle.std.proofs.lemmas.Bool.{true≢false}
-use Rattle.std.proofs.lemmas.List.{take-append-le}
+use Rattle.std.proofs.lemmas.List.{drop-append-le, take-append-le}
+use Rattle.std.proofs.lemmas.Nat.{from_be_bytes-to_be_bytes_8}
 use Rattle.std.proofs.lemmas.Slice.Eq.{bytes_eq-Decides}
+use Rattle.std.specs.Int.{w64, from_be_bytes, to_be_bytes}
 use Rattle.std.specs.Prelude.{◌||◌, bytes_eq, if◌then◌else◌}
 use mathlib.Core.List.{IsPrefix}
 use Rattle.journal_pages.specs.declared.fault.PageFault.{PageFault}
@@ -19,10 +21,11 @@ use Rattle.gate_journal.specs.Kept.{IsRead, Kept, kept_in}
 use Rattle.journal_file.specs.declared.ending.Ending.{Ending}
 use Rattle.journal_file.specs.declared.ending.Ending.TheVariants.{GoesOn, Over, Torn}
 use Rattle.journal_file.specs.declared.fault.FileFault.{FileFault}
+use Rattle.journal_file.specs.Sum.{sum_of}
 use Rattle.journal_file.specs.Endings.{EndsBy, is_unfinished}
 use Rattle.journal_file.specs.File.{AreNotEmpty, file_of, form_of, front_fault, is_end_of_one, sized_page, sized_pages, stands_at}
 use Rattle.journal_file.specs.Said.{HasMoreAt, IsBrokenAt, IsNoDay, IsNoFile, IsParted, ReadsInFront, ReadsNothingElse, Says}
-use Rattle.journal_file.proofs.One.{whole-front}
+use Rattle.journal_file.proofs.One.{few-front, long, whole-front}
 use Rattle.journal_file.proofs.Parted.{along, no-fault, no-page-broken, no-page-by, no-page-over, none-long, pages-in-front, pages-once, parted-once, whole-lasts}
 
 -- ---- refused for nothing
@@ -153,8 +156,9 @@ reads-in-front file day ending few says (a ∷ told) more good same =
     let kept : day.pages ≡ says.pages = keeps-them says.pages day says.read (behind-version a told says.pages front (two-named (a ∷ told) good)) in
     subst (λ (ps : List (List ℕ)). IsPrefix (a ∷ told) ps) (sym kept) front
 
-pub reads-nothing-else : (file : List ℕ) (day : Kept) (ending : Ending) → Says file day ending → ReadsNothingElse file day
-reads-nothing-else file day ending says written more good few same form =
+nothing-else-two : (file : List ℕ) (day : Kept) (ending : Ending) → Says file day ending → (written : List (List ℕ)) (more : List ℕ) → day_fault Two written ≡ None
+    → length (file_of Two written) < 2 ^ 64 → file ++ more ≡ file_of Two written → form_of file ≡ Two → IsPrefix day.pages written
+nothing-else-two file day ending says written more good few same form =
     let rest : List ℕ = says.parted.rest in
     let front : file ≡ sized_pages Two says.pages ++ rest = says.parted.same ∙ ap (λ (v : Version). sized_pages v says.pages ++ rest) form in
     let all : sized_pages Two says.pages ++ (rest ++ more) ≡ sized_pages Two written ++ sized_page Two [] =
@@ -165,3 +169,77 @@ reads-nothing-else file day ending says written more good few same form =
     (no-page-by Two (sized_page Two []) Over refl) all in
     let kept : day.pages ≡ says.pages = keeps-them says.pages day says.read (front-version says.pages written first (two-named written good)) in
     subst (λ (ps : List (List ℕ)). IsPrefix ps written) (sym kept) first
+
+-- ---- a beginning that looks like a file of the first form
+
+-- with twenty bytes the form is seen
+early-form : (page : List ℕ) (pages : List (List ℕ)) (file more : List ℕ) → day_fault Two (page ∷ pages) ≡ None → file ++ more ≡ file_of Two (page ∷ pages)
+    → 20 ≤ length file → form_of file ≡ Two
+early-form page pages file more e same long =
+    let first = page-parts Two page (leads-of Two (page ∷ pages) e).leads.0.whole in
+    let left = length-drop 16 file in
+    let name : take 4 (drop 16 file) ≡ page_name Two =
+    sym (take-append-le 4 (drop 16 file) more (omega (arith, left, long)))
+    ∙ ap (λ (t : List ℕ). take 4 t) (sym (drop-append-le 16 file more (omega (arith, long))))
+    ∙ ap (λ (t : List ℕ). take 4 (drop 16 t)) (same ∙ append_assoc (sized_page Two page) (sized_pages Two pages) (sized_page Two []))
+    ∙ take-append-le 4 page (sized_pages Two pages ++ sized_page Two []) (omega (arith, first.long)) ∙ first.name in
+    let stands : stands_at 16 (page_name Two) file ≡ true = same-name _ _ name in
+    ap (λ (b : Bool). if b then Two else if stands_at 8 (page_name One) file || is_end_of_one file then One else Two) stands
+
+over-one : (rest : List ℕ) (ending : Ending) → EndsBy One rest ending → rest ≡ sized_page One []
+over-one rest GoesOn end = absurd (true≢false (sym end.1))
+over-one rest Over end = end
+over-one rest (Torn n) end = absurd (true≢false (sym end.2))
+
+same-length : (a : List ℕ) (n : ℕ) (x y : List ℕ) → length a < 2 ^ 64 → n < 2 ^ 64 → sized_page One a ++ x ≡ to_be_bytes w64 n ++ y → length a ≡ n
+same-length a n x y la ln e =
+    sym (from_be_bytes-to_be_bytes_8 (length a) la) ∙ ap (λ (t : List ℕ). from_be_bytes w64 (take 8 t)) e ∙ from_be_bytes-to_be_bytes_8 n ln
+
+-- none has a page
+no-first-form : (file : List ℕ) (a : List ℕ) (p : List (List ℕ)) (rest : List ℕ) (written : List (List ℕ)) (more : List ℕ) → day_fault Two written ≡ None
+    → length (file_of Two written) < 2 ^ 64 → file ++ more ≡ file_of Two written → form_of file ≡ One → file ≡ sized_pages One (a ∷ p) ++ rest
+    → rest ≡ sized_page One [] → 1 ≤ length a → ⊥
+no-first-form file a p rest [] more good few same form parts end one =
+    let ahead : file ++ more ≡ sized_page One a ++ ((sized_pages One p ++ rest) ++ more) =
+    ap (λ (t : List ℕ). t ++ more) (parts ∙ append_assoc (sized_page One a) (sized_pages One p) rest) ∙ append_assoc (sized_page One a) (sized_pages One p ++ rest) more in
+    let la : length a < 2 ^ 64 = few-front One a ((sized_pages One p ++ rest) ++ more) (file_of Two []) (sym same ∙ ahead) few in
+    let none : length a ≡ 0 = same-length a 0 ((sized_pages One p ++ rest) ++ more) (to_be_bytes w64 (sum_of [])) la (omega arith) (sym ahead ∙ same) in
+    omega (arith, none, one)
+no-first-form file a p rest (b ∷ written) more good few same form parts end one =
+    let behind : List ℕ = sized_pages One p ++ rest in
+    let front : file ≡ sized_page One a ++ behind = parts ∙ append_assoc (sized_page One a) (sized_pages One p) rest in
+    let ahead : file ++ more ≡ sized_page One a ++ (behind ++ more) =
+    ap (λ (t : List ℕ). t ++ more) front ∙ append_assoc (sized_page One a) behind more in
+    let all : file_of Two (b ∷ written) ≡ sized_page Two b ++ (sized_pages Two written ++ sized_page Two []) = append_assoc (sized_page Two b) (sized_pages Two written) (sized_page Two []) in
+    let la : length a < 2 ^ 64 = few-front One a (behind ++ more) (file_of Two (b ∷ written)) (sym same ∙ ahead) few in
+    let lb : length b < 2 ^ 64 = few-front Two b (sized_pages Two written ++ sized_page Two []) (file_of Two (b ∷ written)) all few in
+    let size : length a ≡ length b =
+    same-length a (length b) (behind ++ more) (to_be_bytes w64 (sum_of b) ++ (b ++ (sized_pages Two written ++ sized_page Two []))) la lb (sym ahead ∙ same ∙ all) in
+    let first = page-parts Two b (leads-of Two (b ∷ written) good).leads.0.whole in
+    let count : length file ≡ length (sized_page One a ++ behind) = ap length front in
+    let counted = long One a behind in
+    let eight : length behind ≡ length (sized_pages One p) + length rest = length-append (sized_pages One p) rest in
+    let last : length rest ≡ 8 = ap length end in
+    let two : form_of file ≡ Two = early-form b written file more good same (omega (arith, size, first.long, count, counted, eight, last)) in
+    not-both (sym form ∙ two)
+  where
+    not-both : One ≡ Two → ⊥
+    not-both e = cc
+
+nothing-else-one : (file : List ℕ) (day : Kept) (pages : List (List ℕ)) (rest : List ℕ) (written : List (List ℕ)) (more : List ℕ) → day_fault Two written ≡ None
+    → length (file_of Two written) < 2 ^ 64 → file ++ more ≡ file_of Two written → form_of file ≡ One → file ≡ sized_pages One pages ++ rest
+    → rest ≡ sized_page One [] → AreNotEmpty pages → IsRead pages day → IsPrefix day.pages written
+nothing-else-one file day [] rest written more good few same form parts end full read =
+    subst (λ (ps : List (List ℕ)). IsPrefix ps written) (sym (keeps-them [] day read refl)) (written, refl)
+nothing-else-one file day (a ∷ p) rest written more good few same form parts end full read =
+    absurd (no-first-form file a p rest written more good few same form parts end full.0)
+
+pub reads-nothing-else : (file : List ℕ) (day : Kept) (ending : Ending) → Says file day ending → ReadsNothingElse file day
+reads-nothing-else file day ending says written more good few same = by-form (form_of file) refl
+  where
+    by-form : (form : Version) → form_of file ≡ form → IsPrefix day.pages written
+    by-form Two e = nothing-else-two file day ending says written more good few same e
+    by-form One e =
+        nothing-else-one file day says.pages says.parted.rest written more good few same e
+        (says.parted.same ∙ ap (λ (v : Version). sized_pages v says.pages ++ says.parted.rest) e)
+        (over-one says.parted.rest ending (subst (λ (v : Version). EndsBy v says.parted.rest ending) e says.parted.end)) says.parted.full says.read

@@ -36,8 +36,7 @@ ReadsInFront file day = (told : List (List ℕ)) (more : List ℕ) → day_fault
 -- Of the beginning of a file that was written with these pages, nothing else is read.
 abbrev pub ReadsNothingElse : List ℕ → Kept → Type 0
 ReadsNothingElse file day = (written : List (List ℕ)) (more : List ℕ) → day_fault Two written ≡ None
-    → length (file_of Two written) < 2 ^ 64 → file ++ more ≡ file_of Two written → form_of file ≡ Two
-    → IsPrefix day.pages written
+    → length (file_of Two written) < 2 ^ 64 → file ++ more ≡ file_of Two written → IsPrefix day.pages written
 
 -- ---- what is damaged
 
