@@ -2,6 +2,6 @@ pub mod Files
 mod Grown
 mod One
 mod Parted
-pub mod Reads
+pub mod Meaning
 mod Standing
 mod Summed

@@ -8,10 +8,10 @@ use Rattle.journal_pages.specs.declared.version.Version.TheVariants.{Two}
 use Rattle.journal_file.specs.declared.fault.FileFault.{FileFault}
 use Rattle.journal_file.specs.Endings.{stands_in_front, stands_somewhere}
 use Rattle.journal_file.specs.File.{front_fault, is_end_of_one, size_in, sized_page}
-use Rattle.journal_file.proofs.One.{whole-front}
+use Rattle.journal_file.proofs.One.{few-front, whole-front}
 
-pub whole-stands : (bytes page rest : List ℕ) → bytes ≡ sized_page Two page ++ rest → length page < 2 ^ 64 → true ≡ stands_in_front bytes
-whole-stands bytes page rest is few = sym (ap is_none (ap (front_fault Two) is ∙ whole-front Two page rest few))
+pub whole-stands : (bytes page rest : List ℕ) → bytes ≡ sized_page Two page ++ rest → length bytes < 2 ^ 64 → true ≡ stands_in_front bytes
+whole-stands bytes page rest is few = sym (ap is_none (ap (front_fault Two) is ∙ whole-front Two page rest (few-front Two page rest bytes is few)))
 
 pub none-stands : (bytes : List ℕ) (fault : FileFault) → front_fault Two bytes ≡ Some fault → false ≡ stands_in_front bytes
 none-stands bytes fault is = sym (ap is_none is)

@@ -1,4 +1,4 @@
-use Rattle.journal_file.proofs.Reads.{reads-in-front}
+use Rattle.journal_file.proofs.Meaning.{reads-in-front}
 use Rattle.day_log.proofs.laws.acknowledged_pages_are_read.Goals as goal
 
 pub returns : goal.returns

@@ -1,5 +1,5 @@
 use Rattle.journal_file.proofs.One.{one-file}
-use Rattle.journal_file.proofs.Reads.{form-seen}
+use Rattle.journal_file.proofs.Meaning.{form-seen}
 use Rattle.journal_file.proofs.laws.files_are_one.Goals as goal
 
 pub returns-clause-one : goal.returns-clause-one

@@ -1,4 +1,4 @@
-use Rattle.journal_file.proofs.Reads.{refused-not, said-once}
+use Rattle.journal_file.proofs.Meaning.{refused-not, said-once}
 use Rattle.journal_file.proofs.laws.files_are_read.Goals as goal
 
 pub returns-clause-once : goal.returns-clause-once
