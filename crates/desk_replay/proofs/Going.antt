@@ -10,7 +10,7 @@ use Rattle.desk_replay.specs.declared.links.OpenLink.{OpenLink}
 use Rattle.desk_replay.specs.Links.{gone_at}
 
 prefix-further : {A : Type 0} (xs ys zs : List A) (z : A) → IsPrefix xs ys → zs ≡ ys ++ z ∷ [] → IsPrefix xs zs
-prefix-further xs ys zs z front more =
+prefix-further {A = A} xs ys zs z front more =
     (front.0 ++ z ∷ [], sym (append_assoc xs front.0 (z ∷ [])) ∙ ap (λ (l : List A). l ++ z ∷ []) front.1 ∙ sym more)
 
 pub stays : (r : Recorded) → HistoryGoesOn r r

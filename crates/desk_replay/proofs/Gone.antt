@@ -43,16 +43,16 @@ covered-self (m ∷ links) =
 
 drop-first : (g : OpenLink) (links gone : List OpenLink) → Covered links (g ∷ gone) → Covered (without g links) gone
 drop-first g [] gone c = tt
-drop-first g (m ∷ links) gone c = by-case (is_same_link g m) refl
+drop-first g (m ∷ links) gone c = by-case (drop-first g links gone c.1) (is_same_link g m) refl
   where
-    by-case : (b : Bool) → is_same_link g m ≡ b → Covered (without g (m ∷ links)) gone
-    by-case true e =
+    by-case : Covered (without g links) gone → (b : Bool) → is_same_link g m ≡ b → Covered (without g (m ∷ links)) gone
+    by-case later true e =
         let less : without g (m ∷ links) ≡ without g links = rw e refl in
-        subst (λ (l : List OpenLink). Covered l gone) (sym less) (drop-first g links gone c.1)
-    by-case false e =
+        subst (λ (l : List OpenLink). Covered l gone) (sym less) later
+    by-case later false e =
         let same : without g (m ∷ links) ≡ m ∷ without g links = rw e refl in
         let there : has m gone ≡ true = ap (λ (b : Bool). b || has m gone) (sym e) ∙ c.0 in
-        subst (λ (l : List OpenLink). Covered l gone) (sym same) (there, drop-first g links gone c.1)
+        subst (λ (l : List OpenLink). Covered l gone) (sym same) (there, later)
 
 one-gone : (at : ℕ) (g : OpenLink) (links : List OpenLink) → open_after links (gone_at at g) ≡ without g links
 one-gone at (Client c l) links = refl

@@ -6,7 +6,7 @@ use Rattle.gate_journal.specs.gate_law.Holds.{Holds}
 use Rattle.gate_journal.specs.Kept.{Kept, kept_in, turns, turns_onto}
 use Rattle.gate_events.specs.declared.event.Event.{Event}
 use Rattle.journal_pages.specs.declared.version.Version.TheVariants.{Two}
-use Rattle.gate_journal.specs.journal_days.Day.{day_records}
+use Rattle.journal_days.specs.Day.{day_records}
 use Rattle.journal_pages.specs.Record.{Record}
 use Rattle.journal_records.specs.Days.{batches_in, events_in}
 use Rattle.same_records.specs.Apart.{DifferBehind}

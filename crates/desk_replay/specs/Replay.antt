@@ -4,7 +4,7 @@ use Rattle.gate_journal.specs.gate_law.Settings.{Settings}
 use Rattle.gate_journal.specs.gate_law.Holds.{Holds}
 use Rattle.gate_journal.specs.Kept.{Kept, turns}
 use Rattle.journal_pages.specs.declared.version.Version.TheVariants.{Two}
-use Rattle.gate_journal.specs.journal_days.Day.{day_records}
+use Rattle.journal_days.specs.Day.{day_records}
 use Rattle.same_records.specs.Apart.{DifferBehind}
 use Rattle.desk_steps.specs.Recorded.{Recorded}
 use Rattle.desk_replay.specs.declared.fault.ReplayFault.{ReplayFault}
