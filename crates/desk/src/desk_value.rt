@@ -2,6 +2,7 @@
 
 use desk_ends::{DeskName, Finished};
 use desk_steps::{History, PortFault, RecordedCore, Settings, Side, Turned, round, settle};
+use gate_events::Event;
 use std::alloc::{AllocError, Global};
 use std::hash::{BuildHasher, BuildHasherDefault, FoldHasher};
 use std::marker::{Model, PhantomData};
@@ -46,12 +47,13 @@ pub struct Closed {
 }
 
 impl<K: DeskName, S: BuildHasher + Drop> Desk<K, S> {
-    ghost use Rattle.std.specs.Prelude.{◌≡◌, IfOk, OnOk, OnErr};
+    ghost use Rattle.std.specs.Prelude.{◌≡◌, IfOk, OnOk, OnErr, false};
     ghost use Rattle.gate_law.specs.After.{lists};
     ghost use Rattle.gate_law.specs.Holds.{Holds};
     ghost use Rattle.desk_steps.specs.gate_core.Expected.{fault_now};
     ghost use Rattle.desk_steps.specs.gate_journal.Kept.{turns};
     ghost use Rattle.desk_steps.specs.Agreeing.{Agrees, AreNamed};
+    ghost use Rattle.desk_steps.specs.Recorded.{IsQuiet};
     ghost use Rattle.desk_steps.specs.Settling.{AreSettled, HistoryGoesOn};
     ghost use Rattle.desk_steps.specs.Turning.{RoundIsRefused, Rounds};
 
@@ -92,6 +94,14 @@ impl<K: DeskName, S: BuildHasher + Drop> Desk<K, S> {
         ensures { self.new ≡ self.old }
     {
         self.side.take_waiting()
+    }
+
+    /// Whether an event would give something if it were stepped next, of whatever inlet it is.
+    pub fn is_due(&mut self, alloc: Global, event: &Event) -> bool
+        ensures same { self.new ≡ self.old }
+        ensures quiet { result ≡ false → IsQuiet event.now self.old.recorded }
+    {
+        self.recorded.is_due(alloc, event)
     }
 
     /// Why a port is faulted; `None` of one that isn't, and of one that the settings don't have. Takes no memory.

@@ -4,6 +4,7 @@ use crate::desk_value::{Closed, Desk};
 use crate::told_outlets::{ToldOutlets, WriteTold};
 use desk_ends::{DeskName, Finished};
 use desk_steps::{PortFault, Turned};
+use gate_events::Event;
 use std::alloc::{AllocError, Global};
 use std::hash::{BuildHasher, BuildHasherDefault, FoldHasher};
 use std::sync::atomic::{AtomicBool, Ordering};
@@ -189,6 +190,16 @@ impl<K: DeskName, S: BuildHasher + Drop> Shared<K, S> {
                 self.ring(at);
             }
         }
+    }
+
+    /// Whether an event would give something if it were stepped now. So it is answered too where another thread has the
+    /// lock, for which nothing is waited, and where memory runs out.
+    pub fn is_due(&self, event: &Event) -> bool {
+        let Some(mut guard) = self.desk.try_lock() else {
+            return true;
+        };
+        let desk = &mut *guard;
+        desk.is_due(*self.bells.allocator(), event)
     }
 
     /// Why a port is faulted, once the lock could be had; `None` of one that isn't.

@@ -57,6 +57,11 @@ impl<'p, 'a, W: Prompt + Drop, G: OutletEnd + Drop, K: DeskName, S: BuildHasher 
         }
     }
 
+    /// Whether time passes for nothing.
+    fn is_idle(&self, event: &Event) -> bool {
+        event.source().is_clock() && !self.shared.is_due(event)
+    }
+
     /// Ends its inlet, and tells what was put. `None` where the desk is gone.
     pub fn finish(self) -> Option<Finished<K>>
         ensures { IfSome result (λ f. f ≡ put_at self.entry.inlet.at self.entry.inlet.source self.entry.inlet.put) }
@@ -80,9 +85,10 @@ impl<'p, 'a, W: Prompt + Drop, G: OutletEnd + Drop, K: DeskName, S: BuildHasher 
 
     ghost was_taken = { λ g. [] };
 
-    /// Puts an event of its inlet's source. One of another source is given back, always.
+    /// Puts an event of its inlet's source. One of another source is given back, always, and so is a tick that gives
+    /// nothing (`Shared::is_due`): of it nothing would be kept but that it came. To see that takes memory.
     fn put(&mut self, event: Event) -> Result<(), Event> {
-        if !event.is_from(&self.inlet.source()) {
+        if !event.is_from(&self.inlet.source()) || self.is_idle(&event) {
             return Err(event);
         }
         self.inlet.put(event)?;

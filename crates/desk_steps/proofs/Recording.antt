@@ -1,5 +1,5 @@
 -- What the core is after, carried along, and what one step makes of a core with its history.
-use Rattle.std.proofs.Common.{◌≡◌, Result, Ok, Err, OnErr, ◌∷◌, ◌++◌, [], refl, sym, ap, ◌∙◌, subst}
+use Rattle.std.proofs.Common.{◌≡◌, Result, Ok, Err, OnErr, None, ◌∷◌, ◌++◌, [], refl, sym, ap, ◌∙◌, subst}
 use Rattle.gate_journal.specs.gate_law.Settings.{Settings}
 use Rattle.gate_journal.specs.gate_law.Events.{Batch, History}
 use Rattle.gate_journal.specs.gate_law.Holds.{Holds}
@@ -8,7 +8,7 @@ use Rattle.gate_core.specs.Core.{After, CoreState, IsAfter}
 use Rattle.gate_journal.specs.Kept.{Kept, kept_turn, turns}
 use Rattle.desk_side.specs.declared.said.Said.{Said}
 use Rattle.desk_side.specs.Said.{IsSaid}
-use Rattle.desk_steps.specs.Recorded.{IsKeptStep, Recorded}
+use Rattle.desk_steps.specs.Recorded.{IsKeptStep, IsQuiet, Recorded}
 
 pub holds-after : (s : Settings) (h : History) (core : CoreState) → IsAfter s h core → Holds s h
 unfolding IsAfter
@@ -41,3 +41,9 @@ same-recorded settings kept more old is same = ap (λ (k : Kept). record { setti
 pub on-err : {T E P : Type 0} (r : Result T E) → P → OnErr r P
 on-err (Ok x) is = tt
 on-err (Err e) is = is
+
+-- a step that tells nobody anything, and is put back
+pub quiet-is : (e : Event) (batch : Batch) (settings : Settings) (kept : Kept) (old : Recorded) → record { settings = settings; kept = kept } ≡ old
+    → batch.client ≡ None → batch.port ≡ None → Holds settings (kept_turn e batch ∷ turns kept) → IsQuiet e old
+quiet-is e batch settings kept old is client port holds =
+    subst (λ (z : Recorded). IsQuiet e z) is (record { batch = batch; client = client; port = port; holds = holds })

@@ -1,5 +1,5 @@
 -- What contracts see of a core with its history, and what one step makes of it. (Own.)
-use Rattle.std.specs.Prelude.{◌≡◌, [], ◌∷◌, ◌++◌}
+use Rattle.std.specs.Prelude.{◌≡◌, [], ◌∷◌, ◌++◌, None}
 use Rattle.gate_journal.specs.gate_law.Settings.{Settings}
 use Rattle.gate_journal.specs.gate_law.Events.{Batch}
 use Rattle.gate_journal.specs.gate_law.Holds.{Holds}
@@ -21,3 +21,10 @@ pub record IsKeptStep (e : Event) (said : Said) (old new : Recorded) : Type 0 wh
   pub batches : new.kept.batches ≡ old.kept.batches ++ batch ∷ []
   pub says : IsSaid batch said
   pub holds : Holds old.settings (kept_turn e batch ∷ turns old.kept)
+
+-- stepped next, the event gives a batch that names nobody, so that nothing is in it; all that is promised holds with it
+pub record IsQuiet (e : Event) (r : Recorded) : Type 0 where
+  pub batch : Batch
+  pub client : batch.client ≡ None
+  pub port : batch.port ≡ None
+  pub holds : Holds r.settings (kept_turn e batch ∷ turns r.kept)

@@ -84,7 +84,7 @@ impl<S: BuildHasher + Clone + Drop> RecordedCore<S> {
 }
 
 impl<S: BuildHasher + Drop> RecordedCore<S> {
-    ghost use Rattle.std.specs.Prelude.{◌≡◌, ◌∷◌, IfOk, OnErr};
+    ghost use Rattle.std.specs.Prelude.{◌≡◌, ◌∷◌, IfOk, OnErr, false};
     ghost use Rattle.gate_journal.specs.gate_law.Events as told;
     ghost use Rattle.gate_journal.specs.gate_law.After.{lists};
     ghost use Rattle.gate_journal.specs.gate_law.Holds.{Holds};
@@ -93,7 +93,7 @@ impl<S: BuildHasher + Drop> RecordedCore<S> {
     ghost use Rattle.gate_core.specs.Expected.{fault_now};
     ghost use Rattle.gate_core.specs.Targets.{client_for, port_for};
     ghost use Rattle.gate_journal.specs.Kept.{turns};
-    ghost use Rattle.desk_steps.specs.Recorded.{IsKeptStep};
+    ghost use Rattle.desk_steps.specs.Recorded.{IsKeptStep, IsQuiet};
 
     /// Whom the batch of this event may name, if it is stepped next. Takes no memory.
     pub fn targets(&self, event: &Event) -> Targets
@@ -121,6 +121,19 @@ impl<S: BuildHasher + Drop> RecordedCore<S> {
                 Err(error)
             }
         }
+    }
+
+    /// Whether an event would give something if it were stepped next: the core steps it and is put back. Also where
+    /// memory runs out for that. So a tick that isn't due needn't be put: it would tell nobody anything.
+    pub fn is_due(&mut self, alloc: Global, event: &Event) -> bool
+        ensures same { self.new ≡ self.old }
+        ensures quiet { result ≡ false → IsQuiet event.now self.old }
+    {
+        let Ok(batch) = self.core.step(alloc, event) else {
+            return true;
+        };
+        self.core.undo();
+        batch.client.is_some() || batch.port.is_some()
     }
 
     /// Why a port is faulted; `None` of one that isn't, and of one that the settings don't have. Takes no memory.
