@@ -57,6 +57,11 @@ serves =
 abbrev pub ends : App
 ends = with_rule (with_rule (new_app (codes "end")) (required_rule (codes "settings"))) (flag_rule (codes "now"))
 
+-- `export --journal FILE [--format NAME]`
+abbrev pub exports : App
+exports =
+    with_rule (with_rule (new_app (codes "export")) (required_rule (codes "journal"))) (value_rule (codes "format"))
+
 -- `demo`
 abbrev pub demo : App
 demo = new_app (codes "demo")
@@ -76,7 +81,9 @@ with_command command more = with_subcommand command more.top
 abbrev pub gateway : App
 gateway =
     with_command
+    (with_command
     (with_command (with_command (with_command (with_command (with_command alone runs) serves) ends) demo) audit)
+    exports)
     journal
 
 -- the subcommand that `clap` finds in the words of a command line, with its arguments, and why it refuses them
@@ -97,6 +104,7 @@ pub data Asking : Type 0 where
   Runs : (settings : Text) (links : Option Text) (journal : Option Text) → Asking
   Serves : (settings : Text) (journal : Option Text) → Asking
   Ends : (settings : Text) (at_once : Bool) → Asking
+  Exports : (journal : Text) (format : Option Text) → Asking
   Demonstrates : Asking
 
 -- What a subcommand asks for, by its name and its arguments. An audit is of a script alone, or of a journal with its
@@ -145,6 +153,10 @@ abbrev pub end_asked : List Row → Option Asking
 end_asked rows =
     option_map (λ (file : Text). Ends file (is_said (first_of (codes "now") rows))) (first_of (codes "settings") rows)
 
+abbrev pub export_asked : List Row → Option Asking
+export_asked rows =
+    option_map (λ (file : Text). Exports file (first_of (codes "format") rows)) (first_of (codes "journal") rows)
+
 unfoldable pub asking_of : Text → List Row → Option Asking
 asking_of name rows =
     if bytes_eq name (codes "audit") then audit_asked rows
@@ -153,6 +165,7 @@ asking_of name rows =
     else if bytes_eq name (codes "serve") then serve_asked rows
     else if bytes_eq name (codes "end") then end_asked rows
     else if bytes_eq name (codes "demo") then Some Demonstrates
+    else if bytes_eq name (codes "export") then export_asked rows
     else None
 
 abbrev pub asked_in : Option (Text × List Row) → Option Asking
