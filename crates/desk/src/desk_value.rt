@@ -1,7 +1,9 @@
 //! What lies under the lock.
 
 use desk_ends::{DeskName, Finished};
-use desk_steps::{History, PortFault, RecordedCore, Settings, Side, Turned, round, settle};
+use desk_steps::{
+    History, PortFault, RecordedCore, Settings, Side, Status, Turned, round, settle,
+};
 use std::alloc::{AllocError, Global};
 use std::hash::{BuildHasher, BuildHasherDefault, FoldHasher};
 use std::marker::{Model, PhantomData};
@@ -49,6 +51,7 @@ impl<K: DeskName, S: BuildHasher + Drop> Desk<K, S> {
     ghost use Rattle.std.specs.Prelude.{◌≡◌, IfOk, OnOk, OnErr};
     ghost use Rattle.gate_law.specs.After.{lists};
     ghost use Rattle.gate_law.specs.Holds.{Holds};
+    ghost use Rattle.desk_steps.specs.gate_core.Board.{IsBoard};
     ghost use Rattle.desk_steps.specs.gate_core.Expected.{fault_now};
     ghost use Rattle.desk_steps.specs.gate_journal.Kept.{turns};
     ghost use Rattle.desk_steps.specs.Agreeing.{Agrees, AreNamed};
@@ -100,6 +103,13 @@ impl<K: DeskName, S: BuildHasher + Drop> Desk<K, S> {
             ((lists self.now.recorded.settings (turns self.now.recorded.kept)).port_calls port) }
     {
         self.recorded.port_fault(port)
+    }
+
+    /// How all clients and ports stand now. It goes through no order.
+    pub fn status(&self, alloc: Global) -> Result<Status, AllocError>
+        ensures { IfOk result (λ status. IsBoard self.now.recorded.settings (turns self.now.recorded.kept) status) }
+    {
+        self.recorded.status(alloc)
     }
 
     /// The history so far: all that is promised holds of it.

@@ -1,7 +1,9 @@
 //! The order gateway's program: runs a gateway by its settings, shows one, and audits scripts.
 #![tactic(auto)]
 
-use gateway_command::{Asked, asked, links_of};
+ghost use Rattle.std.specs.Prelude.{◌≤◌};
+
+use gateway_command::{Asked, Error, asked, is_version, links_of};
 use gateway_demo::{Choice, show_demo};
 use gateway_run::{Day, SettingsFault, SettingsFile, audit_day, end_day, read, run_settings, tell};
 use journal_audit::{audit_file, script_file};
@@ -56,8 +58,19 @@ fn main(rt: HostRuntime) -> ExitCode {
             &rt,
             "an audit is of --script FILE, or of --journal FILE with --settings FILE",
         ),
-        Err(error) => ExitCode::from(tell_refusal(&error, &mut io::writer(&rt), &mut rt.stderr())),
+        Err(error) => ExitCode::from(unasked(&error, &mut io::writer(&rt), &mut rt.stderr())),
     }
+}
+
+/// Tells what a command line came to that asks for nothing: the version, the help, or why it is refused. The status is
+/// 0 for the first two, where they could be written.
+fn unasked<W: Write, F: Write>(error: &Error, output: &mut W, faults: &mut F) -> u8
+    ensures { result ≤ 2 }
+{
+    if is_version(error) {
+        return u8::from(write!(output, "{error}").is_err());
+    }
+    tell_refusal(error, output, faults)
 }
 
 /// The words of the command line, or the status where they can't be had.

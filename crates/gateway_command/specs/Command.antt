@@ -1,6 +1,6 @@
 -- The command line of `gateway`: `audit --script FILE` or `audit --journal FILE --settings FILE`, `journal --script
 -- FILE`, `run --settings FILE [--links N] [--journal FILE]`, `serve --settings FILE [--journal FILE]`, `end --settings
--- FILE [--now]`, `demo`, and nothing else but a call for help.
+-- FILE [--now]`, `demo`, and nothing else but a call for help or `--version`.
 use Rattle.std.specs.Prelude.{ℕ, Bool, true, false, List, Option, Some, None, codes, if◌then◌else◌, option_and_then, option_map}
 use Rattle.std.specs.Prelude.{nat_le, ◌&&◌}
 use Rattle.std.specs.Char.{is_ascii_digit}
@@ -11,6 +11,8 @@ use Rattle.clap.specs.Simple.{new_shape}
 use Rattle.clap.specs.Words.{App, Row, Rule, Text, Kinds, fault_of, first_of, new_app, new_rule, subcommand_of}
 use Rattle.clap.specs.Words.{with_rule, with_subcommand}
 use Rattle.clap.specs.declared.builder.action.ArgAction.TheVariants.{Set, SetTrue}
+use Rattle.clap.specs.declared.error.kind.ErrorKind.{ErrorKind}
+use Rattle.clap.specs.declared.error.kind.ErrorKind.TheVariants as kinds
 
 -- an option with a value, as `--script FILE`
 abbrev pub value_rule : Text → Rule
@@ -59,11 +61,11 @@ ends = with_rule (with_rule (new_app (codes "end")) (required_rule (codes "setti
 abbrev pub demo : App
 demo = new_app (codes "demo")
 
--- `gateway`, which nothing may follow but a subcommand; alone it asks for help
+-- `gateway`, which nothing may follow but a subcommand, or `--version`; alone it asks for help
 abbrev pub alone : App
 alone = record (new_app (codes "gateway")) {
   top = record
-      (new_shape (codes "gateway")) { subcommand_required = true; arg_required_else_help = true };
+      (new_shape (codes "gateway")) { subcommand_required = true; arg_required_else_help = true; has_version = true };
 }
 
 -- a command with a subcommand more
@@ -159,6 +161,11 @@ asked_in = option_and_then (λ p. asking_of p.0 p.1)
 -- what the words ask for
 abbrev pub asked_of : List Text → Option Asking
 asked_of words = asked_in (gateway_found words)
+
+-- the version is asked for
+abbrev pub is_version : ErrorKind → Bool
+is_version kinds.DisplayVersion = true
+is_version other = false
 
 -- how many links of each client are served: digits, for 1 to 1,000; 1 where nothing is said
 abbrev pub links_in : Text → Option ℕ

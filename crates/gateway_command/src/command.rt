@@ -1,14 +1,16 @@
 //! The command line of `gateway`, as `clap` reads it.
 
 ghost use Rattle.std.specs.Prelude.{◌≡◌, codes, false, IfOk, map, option_map};
-ghost use Rattle.clap.specs.Words.{FailsBy, app_of, first_of, found_of, rows_of, rule_of, subcommand_rows_of};
-ghost use Rattle.clap.specs.Words.{with_rule};
+ghost use Rattle.clap.specs.Words.{FailsBy, app_of, first_of, found_of, kind_of, rows_of, rule_of};
+ghost use Rattle.clap.specs.Words.{subcommand_rows_of, with_rule};
 ghost use Rattle.clap.specs.declared.builder.command.Command.{out-Command as fields_of};
 ghost use Rattle.gateway_command.specs.Command as spec;
 ghost use Rattle.gateway_command.specs.Seen.{asked_seen};
 
 use crate::asking::Asked;
 use crate::help::{AUDIT, DEMO, END, JOURNAL, RUN, SERVE};
+use crate::version::version;
+use clap::error::ErrorKind;
 use clap::{Arg, ArgAction, ArgMatches, Command, Error};
 use std::alloc::{AllocError, Global};
 use std::convert::AsStr;
@@ -23,6 +25,13 @@ pub fn asked<'a, S: AsStr>(alloc: Global, words: &'a [S]) -> Result<Option<Asked
 {
     let matches = matches_of(alloc, words)?;
     Ok(asked_in(&matches))
+}
+
+/// Whether a command line that is answered so asks for the version: the answer's text is that, to be printed.
+pub fn is_version(error: &Error) -> bool
+    ensures { result ≡ spec.is_version (kind_of error.now) }
+{
+    matches!(error.kind(), ErrorKind::DisplayVersion)
 }
 
 /// What `clap` finds in the words.
@@ -414,6 +423,7 @@ fn gateway<'a>(alloc: Global) -> Result<Command<'a>, AllocError>
 {
     let alone = Command::new(alloc, "gateway")
         .about("The order gateway: FIX 4.4 clients, OUCH 4.2 market ports")
+        .version(version())
         .subcommand_required(true)
         .arg_required_else_help(true);
     let with_run = with_run(alloc, alone)?;

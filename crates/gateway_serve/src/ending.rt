@@ -39,11 +39,8 @@ where
 
 /// Waits for the day's end, and ends it.
 fn watch<R: Clock + Eprint>(rt: &R, settings: DaySettings, control: &DayControl, flags: &DayFlags) {
-    let DaySettings { ends, linger, .. } = settings;
-    let end = match (ends, now(rt)) {
-        (Some(time), Some(now)) => Some(next_at(now, time)),
-        _ => None,
-    };
+    let end = end_of(rt, settings);
+    let DaySettings { linger, .. } = settings;
     if !waits_for_the_end(rt, end, control) {
         return;
     }
@@ -56,6 +53,17 @@ fn watch<R: Clock + Eprint>(rt: &R, settings: DaySettings, control: &DayControl,
         thread::sleep(rt, look());
     }
     flags.end_clients();
+    control.end_links();
+}
+
+/// The first moment behind now at which the day ends by its time, in milliseconds since 1970; `None` where it ends when
+/// it is told to.
+pub(crate) fn end_of<R: Clock>(rt: &R, settings: DaySettings) -> Option<u64> {
+    let DaySettings { ends, .. } = settings;
+    match (ends, now(rt)) {
+        (Some(time), Some(now)) => Some(next_at(now, time)),
+        _ => None,
+    }
 }
 
 /// Waits until the day is to end, by its time or since it is told to; `false` where it is over before.
@@ -81,7 +89,7 @@ fn is_reached<R: Clock>(rt: &R, end: Option<u64>) -> bool {
 }
 
 /// Now, in milliseconds since 1970; `None` where the system can't say, or is 285 million years from then.
-fn now<R: Clock>(rt: &R) -> Option<u64>
+pub(crate) fn now<R: Clock>(rt: &R) -> Option<u64>
     ensures { IfSome result (λ now. now < 2 ^ 63) }
 {
     let since = rt.since_1970().ok()?;
