@@ -1,9 +1,7 @@
 //! What lies under the lock.
 
 use desk_ends::{DeskName, Finished};
-use desk_steps::{
-    History, PortFault, RecordedCore, Settings, Side, Status, Turned, round, settle,
-};
+use desk_steps::{History, PortFault, RecordedCore, Settings, Side, Status, Turned, round, settle};
 use std::alloc::{AllocError, Global};
 use std::hash::{BuildHasher, BuildHasherDefault, FoldHasher};
 use std::marker::{Model, PhantomData};

@@ -8,10 +8,7 @@ use gate_sessions::{ClientLine, PortLine};
 use std::alloc::{AllocError, Global};
 
 /// The rows of these clients, in their order.
-pub(crate) fn client_rows(
-    alloc: Global,
-    lines: &[ClientLine],
-) -> Result<Vec<ClientRow>, AllocError>
+pub(crate) fn client_rows(alloc: Global, lines: &[ClientLine]) -> Result<Vec<ClientRow>, AllocError>
     ensures { IfOk result (λ rows. rows.items ≡ map client_row_of lines.now) }
 {
     let mut rows = Vec::with_capacity(alloc, lines.len())?;

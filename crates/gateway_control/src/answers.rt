@@ -3,7 +3,9 @@
 use crate::control::DayControl;
 use crate::served::Served;
 use bytes::Bytes;
-use control_guard::{Act, Method, Refusal, Request as Asking, Rules, Verdict, View, judged, token_in};
+use control_guard::{
+    Act, Method, Refusal, Request as Asking, Rules, Verdict, View, judged, token_in,
+};
 use http::{HeaderValue, Request, StatusCode, header};
 use http_server::{Response, Service};
 use status_page::{DayNames, Shown, json_of, metrics_of, page_of};
@@ -131,7 +133,10 @@ fn add_headers(response: &mut Response) -> Result<(), AllocError> {
     response.add_header(header::CACHE_CONTROL, HeaderValue::from_static("no-store"))?;
     let sniffing = HeaderValue::from_static("nosniff");
     response.add_header(header::X_CONTENT_TYPE_OPTIONS, sniffing)?;
-    response.add_header(header::CONTENT_SECURITY_POLICY, HeaderValue::from_static(POLICY))
+    response.add_header(
+        header::CONTENT_SECURITY_POLICY,
+        HeaderValue::from_static(POLICY),
+    )
 }
 
 /// What becomes of a request.

@@ -48,9 +48,9 @@ unanswered_count pairs = count_by is_unanswered pairs
 
 -- `gateway: 17 orders are open at the market, 2 weren't answered`, where there are any
 abbrev pub shown_counts : ℕ → ℕ → List ℕ
-shown_counts open unanswered =
-    if open == 0 && unanswered == 0 then []
-    else counted_word (codes "gateway: ") open ++ counted_word (codes " orders are open at the market, ") unanswered
+shown_counts live unanswered =
+    if live == 0 && unanswered == 0 then []
+    else counted_word (codes "gateway: ") live ++ counted_word (codes " orders are open at the market, ") unanswered
     ++ codes " weren't answered" ++ 10 ∷ []
 
 -- a line for each order that isn't over, in the order of the pairs, and last how many there are

@@ -48,11 +48,7 @@ fn tell_pairs<F: Write>(
 }
 
 /// The lines of the orders that aren't over, in the order of the pairs, and last how many there are.
-fn open_text(
-    alloc: Global,
-    pairs: &[OrderPair],
-    settings: &Settings,
-) -> Result<Vec<u8>, AllocError>
+fn open_text(alloc: Global, pairs: &[OrderPair], settings: &Settings) -> Result<Vec<u8>, AllocError>
     ensures { IfOk result (λ text. text.items ≡ shown.shown_open settings.now pairs.now) }
 {
     let mut text = Vec::new(alloc);
@@ -145,14 +141,18 @@ fn push_shares(text: &mut Vec<u8>, pair: &OrderPair) -> Result<(), AllocError>
 }
 
 /// Adds how many orders there are of either kind, where there are any.
-fn push_counts(text: &mut Vec<u8>, open: usize, unanswered: usize) -> Result<(), AllocError>
-    ensures { OnOk result (text.new.items ≡ text.old.items ++ shown.shown_counts open unanswered) }
+fn push_counts(text: &mut Vec<u8>, live: usize, unanswered: usize) -> Result<(), AllocError>
+    ensures { OnOk result (text.new.items ≡ text.old.items ++ shown.shown_counts live unanswered) }
 {
-    if open == 0 && unanswered == 0 {
+    if live == 0 && unanswered == 0 {
         return Ok(());
     }
-    push_number(text, b"gateway: ", open as u128)?;
-    push_number(text, b" orders are open at the market, ", unanswered as u128)?;
+    push_number(text, b"gateway: ", live as u128)?;
+    push_number(
+        text,
+        b" orders are open at the market, ",
+        unanswered as u128,
+    )?;
     text.extend_from_slice(b" weren't answered\n")
 }
 

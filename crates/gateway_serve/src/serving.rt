@@ -7,9 +7,7 @@ use crate::naming::names_of;
 use crate::served_port::ServedPort;
 use crate::waiting_room::WaitingRoom;
 use gateway_control::{DayControl, Endpoint, serve_endpoint};
-use gateway_run::{
-    Day, LinkRules, RunFault, RunPlan, SettingsFile, Teller, Whose, run_shown,
-};
+use gateway_run::{Day, LinkRules, RunFault, RunPlan, SettingsFile, Teller, Whose, run_shown};
 use operator_settings::{AddressRange, OperatorSettings};
 use std::alloc::{AllocError, Global};
 use std::hash::RandomState;
@@ -144,9 +142,7 @@ fn rooms_of<'a, R: Clock + Eprint>(
             Some(flag) => flag,
             None => flags.clients(),
         };
-        rooms.push(WaitingRoom::new(
-            rt, alloc, listener, ranges, teller, flags, ends,
-        ))?;
+        rooms.push(WaitingRoom::new(rt, alloc, listener, ranges, teller, flags, ends))?;
     }
     Ok(rooms)
 }

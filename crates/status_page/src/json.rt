@@ -46,12 +46,10 @@ fn shown_value(
     let gateway = text_of(names.gateway.as_slice());
     let age = age_of(shown, now);
     let events = shown.status.events();
-    Ok(
-        json!(in alloc; {
+    Ok(json!(in alloc; {
             "gateway": gateway, "begun": begun, "ends": ends, "at": at, "age_ms": age, "events": events,
             "clients": clients, "ports": ports
-        })?,
-    )
+        })?)
 }
 
 /// A moment as a UTCTimestamp.
@@ -94,11 +92,9 @@ fn client_value(
     let (client, name) = (client.as_str(), text_of(name));
     let (is_on, next_in, next_out) = (row.is_logged_on, row.next_in, row.next_out);
     let link = link_value(row.link);
-    Ok(
-        json!(in alloc; {
+    Ok(json!(in alloc; {
             "client": client, "name": name, "link": link, "logged_on": is_on, "next_in": next_in, "next_out": next_out
-        })?,
-    )
+        })?)
 }
 
 /// The ports, in the order of the settings.
@@ -127,11 +123,9 @@ fn port_value(
     let (port, address) = (port.as_str(), text_of(address));
     let (state, reason, next) = (state_name(row.state), reason_of(row.state), row.next);
     let link = link_value(row.link);
-    Ok(
-        json!(in alloc; {
+    Ok(json!(in alloc; {
             "port": port, "address": address, "link": link, "state": state, "reason": reason, "next": next
-        })?,
-    )
+        })?)
 }
 
 /// A name as a text; empty where it is none.

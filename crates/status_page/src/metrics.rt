@@ -84,11 +84,7 @@ fn push_events(text: &mut Vec<u8>, events: u64) -> Result<(), AllocError>
 }
 
 /// Adds the metrics of clients.
-fn push_clients(
-    text: &mut Vec<u8>,
-    names: &[Vec<u8>],
-    rows: &[ClientRow],
-) -> Result<(), AllocError>
+fn push_clients(text: &mut Vec<u8>, names: &[Vec<u8>], rows: &[ClientRow]) -> Result<(), AllocError>
     ensures { OnOk result (text.new.items ≡ text.old.items ++ spec.clients (map (λ v. v.items) names.now) rows.now) }
 {
     push_client_metric(text, ClientMetric::Up, names, rows)?;
@@ -122,7 +118,13 @@ fn push_client_lines(
 {
     match (names, rows) {
         ([name, names @ ..], [row, rows @ ..]) => {
-            push_line(text, metric.name(), b"client", name.as_slice(), metric.of(row))?;
+            push_line(
+                text,
+                metric.name(),
+                b"client",
+                name.as_slice(),
+                metric.of(row),
+            )?;
             push_client_lines(text, metric, names, rows)
         }
         _ => Ok(()),
@@ -130,11 +132,7 @@ fn push_client_lines(
 }
 
 /// Adds the metrics of ports.
-fn push_ports(
-    text: &mut Vec<u8>,
-    names: &[Vec<u8>],
-    rows: &[PortRow],
-) -> Result<(), AllocError>
+fn push_ports(text: &mut Vec<u8>, names: &[Vec<u8>], rows: &[PortRow]) -> Result<(), AllocError>
     ensures { OnOk result (text.new.items ≡ text.old.items ++ spec.ports (map (λ v. v.items) names.now) rows.now) }
 {
     push_port_metric(text, PortMetric::Up, names, rows)?;
@@ -168,7 +166,13 @@ fn push_port_lines(
 {
     match (names, rows) {
         ([name, names @ ..], [row, rows @ ..]) => {
-            push_line(text, metric.name(), b"port", name.as_slice(), metric.of(row))?;
+            push_line(
+                text,
+                metric.name(),
+                b"port",
+                name.as_slice(),
+                metric.of(row),
+            )?;
             push_port_lines(text, metric, names, rows)
         }
         _ => Ok(()),
@@ -176,12 +180,7 @@ fn push_port_lines(
 }
 
 /// Adds what stands before the lines of a metric.
-fn push_head(
-    text: &mut Vec<u8>,
-    metric: &[u8],
-    kind: &[u8],
-    help: &[u8],
-) -> Result<(), AllocError>
+fn push_head(text: &mut Vec<u8>, metric: &[u8], kind: &[u8], help: &[u8]) -> Result<(), AllocError>
     ensures { OnOk result (text.new.items ≡ text.old.items ++ spec.head metric.now kind.now help.now) }
 {
     text.extend_from_slice(b"# HELP ")?;

@@ -51,11 +51,7 @@ pub fn page_of(
 }
 
 /// Whose day it is, and from when to when.
-fn push_top(
-    page: &mut String,
-    names: &DayNames,
-    shown: &Option<Shown>,
-) -> Result<(), AllocError> {
+fn push_top(page: &mut String, names: &DayNames, shown: &Option<Shown>) -> Result<(), AllocError> {
     page.push_str("<h1>")?;
     push_escaped(page, names.gateway.as_slice())?;
     page.push_str("</h1><p>")?;
@@ -176,7 +172,10 @@ fn push_client(
     page.push_str(session_cell(row))?;
     push_link(page, row.link)?;
     let (next_in, next_out) = (row.next_in, row.next_out);
-    writeln!(page, "<td class=\"n\">{next_in}<td class=\"n\">{next_out}</tr>")
+    writeln!(
+        page,
+        "<td class=\"n\">{next_in}<td class=\"n\">{next_out}</tr>"
+    )
 }
 
 /// How a client's session stands.
