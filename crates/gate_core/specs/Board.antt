@@ -12,6 +12,8 @@ use Rattle.gate_law.specs.After.{lists}
 use Rattle.gate_law.specs.Sessions.{port_state}
 use Rattle.gate_sessions.specs.declared.client_line.ClientLine.{ClientLine}
 use Rattle.gate_sessions.specs.declared.port_line.PortLine.{PortLine}
+use Rattle.gate_sessions.specs.order_law.History.{OrderHistory, issued}
+use Rattle.gate_sessions.specs.order_law.Verdicts.{open_orders}
 use Rattle.gate_core.specs.Core.{stepped}
 use Rattle.gate_core.specs.declared.board.Board.{Board}
 use Rattle.gate_core.specs.declared.board.ClientRow.{ClientRow}
@@ -43,11 +45,19 @@ AreClientRows s v rows =
 abbrev pub ArePortRows : Settings → Lists → List PortRow → Type 0
 ArePortRows s v rows = (i : ℕ) (row : PortRow) → slice_get rows i ≡ Some row → IsPortRow s v (i + 1) row
 
+-- as many orders of each client aren't closed as its own reports have it: number i + 1 stands at place i (FIX 4.4
+-- Volume 4, "Execution Report")
+abbrev pub AreOpenCounts : OrderHistory → List ℕ → Type 0
+AreOpenCounts turns counts =
+    (i : ℕ) (n : ℕ) → slice_get counts i ≡ Some n → n ≡ open_orders (issued (i + 1) turns)
+
 -- A board of a history: a row for each client and each port of the settings, all of them after the same events.
 pub record IsBoard (s : Settings) (h : History) (b : Board) : Type 0 where
   pub events : b.events ≡ stepped h
   pub client_count : length b.clients.items ≡ length s.clients
   pub clients : AreClientRows s (lists s h) b.clients.items
+  pub open_count : length b.open.items ≡ length s.clients
+  pub counts : AreOpenCounts (lists s h).turns b.open.items
   pub port_count : length b.ports.items ≡ length s.ports
   pub ports : ArePortRows s (lists s h) b.ports.items
 

@@ -32,5 +32,7 @@ pub struct Board {
     /// How many events were stepped.
     pub events: u64,
     pub clients: Vec<ClientRow>,
+    /// How many orders of each client aren't closed, by its own reports.
+    pub open: Vec<usize>,
     pub ports: Vec<PortRow>,
 }

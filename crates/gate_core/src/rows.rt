@@ -1,11 +1,16 @@
 //! The rows of a board.
 
-ghost use Rattle.std.specs.Prelude.{◌≡◌, map, IfOk};
-ghost use Rattle.gate_core.specs.Board.{client_row_of, port_row_of};
+ghost use Rattle.std.specs.Prelude.{◌≡◌, ◌≤◌, List, length, map, IfOk};
+ghost use Rattle.order_core.specs.History.{OrderHistory, Terms};
+ghost use Rattle.order_core.specs.State.{IsAfterTurns};
+ghost use Rattle.order_core.specs.order_machine.Runs.{NumbersLeft};
+ghost use Rattle.gate_core.specs.Board.{AreOpenCounts, client_row_of, port_row_of};
 
 use crate::board::{ClientRow, PortRow};
 use gate_sessions::{ClientLine, PortLine};
+use order_core::OrderCore;
 use std::alloc::{AllocError, Global};
+use std::hash::BuildHasher;
 
 /// The rows of these clients, in their order.
 pub(crate) fn client_rows(alloc: Global, lines: &[ClientLine]) -> Result<Vec<ClientRow>, AllocError>
@@ -27,6 +32,24 @@ pub(crate) fn port_rows(alloc: Global, lines: &[PortLine]) -> Result<Vec<PortRow
         rows.push(port_row(line))?;
     }
     Ok(rows)
+}
+
+/// How many orders of each of so many clients aren't closed, in the clients' order.
+pub(crate) fn open_counts<S: BuildHasher + Drop>(
+    alloc: Global,
+    orders: &OrderCore<S>,
+    clients: usize,
+) -> Result<Vec<usize>, AllocError>
+    requires few { clients ≤ 64 }
+    ensures count { IfOk result (λ counts. length counts.items ≡ clients) }
+    ensures counted { IfOk result (λ counts. (terms : List Terms) (before : OrderHistory) → NumbersLeft before
+        → IsAfterTurns terms before orders.now → AreOpenCounts before counts.items) }
+{
+    let mut counts = Vec::with_capacity(alloc, clients)?;
+    for place in 0..clients {
+        counts.push(orders.open_count((place + 1) as u16))?;
+    }
+    Ok(counts)
 }
 
 /// The row of a client.

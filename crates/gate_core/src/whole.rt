@@ -5,7 +5,7 @@ ghost use Rattle.std.specs.Prelude.{[], ◌∷◌, ◌≡◌, length, IfOk, OnEr
 use crate::board::Board;
 use crate::parts::Parts;
 use crate::parts::new::{orders, orders_with_hasher};
-use crate::rows::{client_rows, port_rows};
+use crate::rows::{client_rows, open_counts, port_rows};
 use crate::targets::Targets;
 use gate_events::{Batch, Event};
 use gate_settings::Settings;
@@ -221,10 +221,12 @@ impl<S: BuildHasher + Drop> Core<S> {
             → IsBoard s before board) }
     {
         let clients = client_rows(alloc, self.parts.clients.lines.as_slice())?;
+        let open = open_counts(alloc, &self.parts.orders, self.parts.clients.lines.len())?;
         let ports = port_rows(alloc, self.parts.ports.lines.as_slice())?;
         Ok(Board {
             events: self.events,
             clients,
+            open,
             ports,
         })
     }
