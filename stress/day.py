@@ -23,6 +23,9 @@ EVENT = re.compile(r"\d{8}-\d\d:\d\d:\d\d\.\d{3} ([CP]\d+) "
 SKIPPED = re.compile(r"\d{8}-\d\d:\d\d:\d\d\.\d{3} (C\d+) skipped (\d+) bytes")
 # what is told in place of a frame that there was no memory for
 UNSHOWN = re.compile(r"\d{8}-\d\d:\d\d:\d\d\.\d{3} C\d+ sent a Reject, a ResendRequest or a Logout")
+# why a link's session is refused, and that events wait for memory
+WHY = re.compile(r"\d{8}-\d\d:\d\d:\d\d\.\d{3} ([CP])\d+ (Logon refused|login rejected): [ -~]+")
+MEMORY = re.compile(r"\d{8}-\d\d:\d\d:\d\d\.\d{3} gateway: (out of memory: events wait|memory is back after \d+\.\d s)")
 SETTLES, CLOSES, LEAVES = 90.0, 40.0, 60.0
 
 
@@ -221,6 +224,12 @@ class Day:
         for line in Path(self.folder, "errors").read_text(errors="replace").splitlines():
             if self.refusing and UNSHOWN.fullmatch(line):
                 counts["C sent what isn't shown"] += 1
+                continue
+            if self.refusing and MEMORY.fullmatch(line):
+                counts["of memory"] += 1
+                continue
+            if why := WHY.fullmatch(line):
+                counts[f"{why[1]} {why[2]}"] += 1
                 continue
             if skips := SKIPPED.fullmatch(line):
                 counts["C skipped"] += 1

@@ -265,6 +265,8 @@ class Day:
         bank = Client(b"BANK", self.at["bank"])
         bank.sent = self.bank.sent
         self.is_so("the client logs on behind them", bank.log_on() is not None)
+        why = "C1 Logon refused: 49=NOBODY isn't this client's name\n"
+        self.is_so(f"why is told, of each ({self.errors.read_text().count(why)})", self.errors.read_text().count(why) == 100)
         self.bank = bank
 
     def foreign_addresses(self):
@@ -366,9 +368,9 @@ class Day:
                    (ran.returncode, self.running.returncode) == (0, 0))
         lost = [int(line.split()[1]) for line in told.splitlines() if "lines are lost here" in line]
         self.is_so(f"{sum(lost)} lines are lost, and told as lost", sum(lost) > 0)
-        kept = sum(" C2 up" in line or " C2 closed" in line for line in told.splitlines())
-        self.is_so(f"{kept} lines of that client are there: with those that are lost about all of 3,000",
-                   2900 < kept + sum(lost) < 3100)
+        kept = sum(" C2 up" in line or " C2 Logon refused" in line or " C2 closed" in line for line in told.splitlines())
+        self.is_so(f"{kept} lines of that client are there: with those that are lost about all of 4,500",
+                   4400 < kept + sum(lost) < 4600)
         self.market.end()
 
     def run(self):

@@ -2,6 +2,9 @@
 
 use desk_ends::{DeskName, Finished};
 use desk_steps::{History, PortFault, RecordedCore, Settings, Side, Turned, round, settle};
+use fix_fields::Fields;
+use fix_session::LogonFault;
+use gate_events::{ClientNumber, Event};
 use std::alloc::{AllocError, Global};
 use std::hash::{BuildHasher, BuildHasherDefault, FoldHasher};
 use std::marker::{Model, PhantomData};
@@ -49,7 +52,8 @@ impl<K: DeskName, S: BuildHasher + Drop> Desk<K, S> {
     ghost use Rattle.std.specs.Prelude.{◌≡◌, IfOk, OnOk, OnErr};
     ghost use Rattle.gate_law.specs.After.{lists};
     ghost use Rattle.gate_law.specs.Holds.{Holds};
-    ghost use Rattle.desk_steps.specs.gate_core.Expected.{fault_now};
+    ghost use Rattle.desk_steps.specs.gate_core.Expected.{event_due, fault_now, logon_fault_now};
+    ghost use Rattle.gate_events.specs.Seen.{event_seen};
     ghost use Rattle.desk_steps.specs.gate_journal.Kept.{turns};
     ghost use Rattle.desk_steps.specs.Agreeing.{Agrees, AreNamed};
     ghost use Rattle.desk_steps.specs.Settling.{AreSettled, HistoryGoesOn};
@@ -70,8 +74,8 @@ impl<K: DeskName, S: BuildHasher + Drop> Desk<K, S> {
     /// Goes once round the inlets, in order, and steps an event of each at most. An event waits where a ring is full to
     /// somebody whom its batch may tell something, and is dropped where it isn't of its inlet's source.
     ///
-    /// Where memory is refused the event stays first in its inlet's ring, and the round ends. `AllocError` comes only
-    /// where that was the first step that was tried.
+    /// Where memory is refused the event stays first in its inlet's ring, and the other inlets have their turns.
+    /// `AllocError` comes where it was refused for one, and no step was made.
     pub fn round(&mut self, alloc: Global) -> Result<Turned, AllocError>
         ensures ok { IfOk result (λ turned. Rounds turned self.old self.new) }
         ensures err { OnErr result (RoundIsRefused self.old self.new) }
@@ -92,6 +96,23 @@ impl<K: DeskName, S: BuildHasher + Drop> Desk<K, S> {
         ensures { self.new ≡ self.old }
     {
         self.side.take_waiting()
+    }
+
+    /// Whether this event is none that only says that time passes and gives nothing (`Core::is_due`). Takes no memory.
+    pub fn is_due(&self, alloc: Global, event: &Event) -> bool
+        ensures { result ≡ event_due self.now.recorded.settings
+            (lists self.now.recorded.settings (turns self.now.recorded.kept)) (event_seen event.now) }
+    {
+        self.recorded.is_due(alloc, event)
+    }
+
+    /// Why a frame of a client's link that isn't logged on is answered by the link's end alone (`Core::logon_fault`).
+    /// Takes no memory.
+    pub fn logon_fault(&self, client: ClientNumber, frame: &Fields) -> Option<LogonFault>
+        ensures { result ≡ logon_fault_now self.now.recorded.settings client
+            ((lists self.now.recorded.settings (turns self.now.recorded.kept)).client_calls client) frame.now }
+    {
+        self.recorded.logon_fault(client, frame)
     }
 
     /// Why a port is faulted; `None` of one that isn't, and of one that the settings don't have. Takes no memory.

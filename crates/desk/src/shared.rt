@@ -4,6 +4,9 @@ use crate::desk_value::{Closed, Desk};
 use crate::told_outlets::{ToldOutlets, WriteTold};
 use desk_ends::{DeskName, Finished};
 use desk_steps::{PortFault, Turned};
+use fix_fields::Fields;
+use fix_session::LogonFault;
+use gate_events::{ClientNumber, Event};
 use std::alloc::{AllocError, Global};
 use std::hash::{BuildHasher, BuildHasherDefault, FoldHasher};
 use std::sync::atomic::{AtomicBool, Ordering};
@@ -36,6 +39,8 @@ pub struct Shared<K: DeskName, S: BuildHasher + Drop = BuildHasherDefault<FoldHa
     desk: Mutex<Desk<K, S>>,
     /// Rounds are wanted until one makes no step: by a thread that found the lock taken, or that stopped before.
     wanted: AtomicBool,
+    /// Memory was refused for an event in the rounds that were made last.
+    is_refused: AtomicBool,
     bells: Vec<Parker>,
 }
 
@@ -45,6 +50,7 @@ impl<K: DeskName, S: BuildHasher + Drop> Drop for Shared<K, S> {
         let Shared {
             desk: _,
             wanted: _,
+            is_refused: _,
             bells: _,
         } = self;
     }
@@ -62,6 +68,7 @@ impl<K: DeskName, S: BuildHasher + Drop> Shared<K, S> {
         Shared {
             desk: Mutex::new(desk),
             wanted: AtomicBool::new(false),
+            is_refused: AtomicBool::new(false),
             bells,
         }
     }
@@ -78,8 +85,8 @@ impl<K: DeskName, S: BuildHasher + Drop> Shared<K, S> {
     /// the lock free, `writer` writes what they told: all that eight rounds told an outlet lies there then.
     ///
     /// It waits for nobody but `writer`. Where another thread has the lock, that one makes rounds until one makes no
-    /// step once it is free, and none is counted here. `AllocError` comes only where memory is refused before a round
-    /// made a step.
+    /// step once it is free, and none is counted here. `AllocError` comes only where memory is refused for an event and
+    /// no round made a step.
     pub fn turns<T: WriteTold>(
         &self,
         alloc: Global,
@@ -103,9 +110,10 @@ impl<K: DeskName, S: BuildHasher + Drop> Shared<K, S> {
             let told = ToldOutlets::of_bits(desk.take_rung());
             drop(guard);
             writer.write_told(alloc, told);
+            self.note_memory(&made);
             left = match made {
-                Ok(true) => left.saturating_sub(UNDER_ONE_LOCK),
-                Ok(false) => 0,
+                Ok(made) if made.is_all => left.saturating_sub(UNDER_ONE_LOCK),
+                Ok(_) => 0,
                 Err(error) => {
                     let _ = self.wanted.swap(true, Ordering::SeqCst);
                     return if turns.rounds == 0 {
@@ -124,6 +132,22 @@ impl<K: DeskName, S: BuildHasher + Drop> Shared<K, S> {
         }
         let _ = self.wanted.swap(true, Ordering::SeqCst);
         Ok(turns)
+    }
+
+    /// Notes whether memory was refused for an event in these rounds.
+    fn note_memory(&self, made: &Result<Made, AllocError>) {
+        let is_refused = match made {
+            Ok(made) => made.is_refused,
+            Err(_) => true,
+        };
+        if self.is_refused.load(Ordering::SeqCst) != is_refused {
+            self.is_refused.store(is_refused, Ordering::SeqCst);
+        }
+    }
+
+    /// Whether memory was refused for an event in the rounds that were made last: it waits first in its ring.
+    pub fn is_memory_refused(&self) -> bool {
+        self.is_refused.load(Ordering::SeqCst)
     }
 
     /// The lock, where it is free; else nothing, and who has it knows that rounds are wanted.
@@ -191,6 +215,27 @@ impl<K: DeskName, S: BuildHasher + Drop> Shared<K, S> {
         }
     }
 
+    /// Whether this event is none that only says that time passes and gives nothing (`Core::is_due`), once the lock
+    /// could be had.
+    pub fn is_due(&self, rt: &impl Wait, alloc: Global, event: &Event) -> bool {
+        let guard = self.desk.lock(rt);
+        let desk = &*guard;
+        desk.is_due(alloc, event)
+    }
+
+    /// Why a frame of a client's link that isn't logged on is answered by the link's end alone (`Core::logon_fault`), once
+    /// the lock could be had.
+    pub fn logon_fault(
+        &self,
+        rt: &impl Wait,
+        client: ClientNumber,
+        frame: &Fields,
+    ) -> Option<LogonFault> {
+        let guard = self.desk.lock(rt);
+        let desk = &*guard;
+        desk.logon_fault(client, frame)
+    }
+
     /// Why a port is faulted, once the lock could be had; `None` of one that isn't.
     pub fn port_fault(&self, rt: &impl Wait, port: u16) -> Option<PortFault> {
         let guard = self.desk.lock(rt);
@@ -216,6 +261,7 @@ impl<K: DeskName, S: BuildHasher + Drop> Shared<K, S> {
         let Shared {
             desk,
             wanted: _,
+            is_refused: _,
             bells,
         } = self;
         let mut desk = desk.into_inner();
@@ -234,21 +280,38 @@ impl<K: DeskName, S: BuildHasher + Drop> WriteTold for Shared<K, S> {
     }
 }
 
-/// Rounds, so many at most, until one makes no step, beside those that were made: whether all of them made one.
-/// `AllocError` leaves those that made one counted.
+/// What rounds came to.
+#[derive(Clone, Copy)]
+struct Made {
+    /// Each of them made a step.
+    is_all: bool,
+    /// Memory was refused for an event in the last of them.
+    is_refused: bool,
+}
+
+/// Rounds, so many at most, until one makes no step, beside those that were made. `AllocError` leaves those that made
+/// one counted.
 fn rounds<K: DeskName, S: BuildHasher + Drop>(
     desk: &mut Desk<K, S>,
     alloc: Global,
     most: u32,
     turns: &mut Turns,
-) -> Result<bool, AllocError> {
+) -> Result<Made, AllocError> {
+    let mut is_refused = false;
     for _ in 0..most {
         let turned = desk.round(alloc)?;
+        is_refused = turned.refused != 0;
         if turned.steps == 0 {
-            return Ok(false);
+            return Ok(Made {
+                is_all: false,
+                is_refused,
+            });
         }
         turns.rounds = turns.rounds.saturating_add(1);
         turns.steps = turns.steps.saturating_add(turned.steps);
     }
-    Ok(true)
+    Ok(Made {
+        is_all: true,
+        is_refused,
+    })
 }

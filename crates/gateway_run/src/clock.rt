@@ -1,6 +1,7 @@
 //! The clocks of readers, and of the worker that has time pass.
 
 use crate::counted::ClientCounts;
+use crate::memory_watch::MemoryWatch;
 use desk_gates::{DeskName, Shared};
 use gate_serving::Clock;
 use link_sockets::SystemClock;
@@ -30,7 +31,7 @@ pub(crate) struct RunClock<'a, K: DeskName, R> {
     watch: Option<Watch<'a, K, R>>,
 }
 
-impl<'a, K: DeskName, R: Wait + time::Clock> RunClock<'a, K, R> {
+impl<'a, K: DeskName, R: Wait + time::Clock + Eprint> RunClock<'a, K, R> {
     /// Of a reader. Takes no memory.
     pub(crate) fn new(rt: &'a R) -> RunClock<'a, K, R> {
         RunClock {
@@ -55,12 +56,13 @@ impl<'a, K: DeskName, R: Wait + time::Clock> RunClock<'a, K, R> {
                 counts,
                 is_over,
                 idle: 0,
+                memory: MemoryWatch::new(rt),
             }),
         }
     }
 }
 
-impl<'a, K: DeskName, R: Wait + time::Clock> Clock for RunClock<'a, K, R> {
+impl<'a, K: DeskName, R: Wait + time::Clock + Eprint> Clock for RunClock<'a, K, R> {
     fn now_ms(&mut self) -> u64 {
         self.clock.now_ms()
     }
@@ -73,7 +75,7 @@ impl<'a, K: DeskName, R: Wait + time::Clock> Clock for RunClock<'a, K, R> {
     }
 }
 
-/// Who looks for what waits to be written, and whether clients are left alone.
+/// Who looks for what waits to be written, whether clients are left alone, and whether memory is refused.
 #[derive(Drop)]
 struct Watch<'a, K: DeskName, R> {
     rt: &'a R,
@@ -82,9 +84,10 @@ struct Watch<'a, K: DeskName, R> {
     is_over: &'a AtomicBool,
     /// The pauses since one of the clients waited for a link or had one.
     idle: u32,
+    memory: MemoryWatch<'a, R>,
 }
 
-impl<'a, K: DeskName, R: Wait + time::Clock> Watch<'a, K, R> {
+impl<'a, K: DeskName, R: Wait + time::Clock + Eprint> Watch<'a, K, R> {
     /// Pauses until the next round of ticks, and rings the bells of writers for whom something waits.
     fn pause(&mut self, clock: &mut SystemClock<'a, R>) {
         let end = clock.now_ms().saturating_add(u64::from(BETWEEN_TICKS));
@@ -95,6 +98,8 @@ impl<'a, K: DeskName, R: Wait + time::Clock> Watch<'a, K, R> {
                 break;
             }
         }
+        self.memory
+            .look(self.shared.is_memory_refused(), clock.now_ms());
         self.look();
     }
 

@@ -5,6 +5,7 @@ ghost use Rattle.std.specs.Prelude.{◌<◌, ◌^◌, IfSome};
 use crate::day_flags::DayFlags;
 use gateway_control::DayControl;
 use operator_settings::{DaySettings, next_at};
+use stderr_queue::LineQueue;
 use std::alloc::Global;
 use std::sync::{Arc, Wait};
 use std::thread;

@@ -8,6 +8,7 @@ use crate::waiting_room::WaitingRoom;
 use gateway_control::{DayControl, Endpoint, serve_endpoint};
 use gateway_run::{Day, LinkRules, RunFault, RunPlan, SettingsFile, Teller, Whose, run};
 use operator_settings::{AddressRange, OperatorSettings};
+use stderr_queue::{LineQueue, Queued};
 use std::alloc::{AllocError, Global};
 use std::hash::RandomState;
 use std::net::{Net, TcpListener, TcpStream};
