@@ -1,7 +1,7 @@
 //! What lies under the lock.
 
 use desk_ends::{DeskName, Finished};
-use desk_steps::{History, PortFault, RecordedCore, Settings, Side, Turned, round, settle};
+use desk_steps::{History, PortFault, RecordedCore, Settings, Side, Status, Turned, round, settle};
 use fix_fields::Fields;
 use fix_session::LogonFault;
 use gate_events::{ClientNumber, Event};
@@ -52,6 +52,7 @@ impl<K: DeskName, S: BuildHasher + Drop> Desk<K, S> {
     ghost use Rattle.std.specs.Prelude.{◌≡◌, IfOk, OnOk, OnErr};
     ghost use Rattle.gate_law.specs.After.{lists};
     ghost use Rattle.gate_law.specs.Holds.{Holds};
+    ghost use Rattle.desk_steps.specs.gate_core.Board.{IsBoard};
     ghost use Rattle.desk_steps.specs.gate_core.Expected.{event_due, fault_now, logon_fault_now};
     ghost use Rattle.gate_events.specs.Seen.{event_seen};
     ghost use Rattle.desk_steps.specs.gate_journal.Kept.{turns};
@@ -121,6 +122,13 @@ impl<K: DeskName, S: BuildHasher + Drop> Desk<K, S> {
             ((lists self.now.recorded.settings (turns self.now.recorded.kept)).port_calls port) }
     {
         self.recorded.port_fault(port)
+    }
+
+    /// How all clients and ports stand now. It goes through no order.
+    pub fn status(&self, alloc: Global) -> Result<Status, AllocError>
+        ensures { IfOk result (λ status. IsBoard self.now.recorded.settings (turns self.now.recorded.kept) status) }
+    {
+        self.recorded.status(alloc)
     }
 
     /// The history so far: all that is promised holds of it.

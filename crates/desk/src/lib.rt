@@ -11,7 +11,7 @@ mod shared;
 mod told_outlets;
 
 pub use desk_ends::{DeskName, Finished, Inlet, Outlet, Recipient};
-pub use desk_steps::Turned;
+pub use desk_steps::{Status, Turned};
 pub use desk_value::{Closed, Desk};
 pub use opening::{Parts, open_desk};
 pub use shared::{Shared, Turns};

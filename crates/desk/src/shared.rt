@@ -3,7 +3,7 @@
 use crate::desk_value::{Closed, Desk};
 use crate::told_outlets::{ToldOutlets, WriteTold};
 use desk_ends::{DeskName, Finished};
-use desk_steps::{PortFault, Turned};
+use desk_steps::{PortFault, Status, Turned};
 use fix_fields::Fields;
 use fix_session::LogonFault;
 use gate_events::{ClientNumber, Event};
@@ -241,6 +241,13 @@ impl<K: DeskName, S: BuildHasher + Drop> Shared<K, S> {
         let guard = self.desk.lock(rt);
         let desk = &*guard;
         desk.port_fault(port)
+    }
+
+    /// How all clients and ports stand at one moment, once the lock could be had. It goes through no order.
+    pub fn status(&self, rt: &impl Wait, alloc: Global) -> Result<Status, AllocError> {
+        let guard = self.desk.lock(rt);
+        let desk = &*guard;
+        desk.status(alloc)
     }
 
     /// Ends the desk: steps what is left of what finished inlets put, and gives the history and the settings.

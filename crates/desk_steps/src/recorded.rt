@@ -5,6 +5,7 @@ ghost use Rattle.gate_journal.specs.Kept.{Kept, turns};
 ghost use Rattle.gate_core.specs.Core.{turn_of};
 ghost use Rattle.desk_side.specs.Said.{IsSaid};
 
+use crate::status::Status;
 use desk_side::Said;
 use fix_fields::Fields;
 use fix_session::LogonFault;
@@ -92,6 +93,7 @@ impl<S: BuildHasher + Drop> RecordedCore<S> {
     ghost use Rattle.gate_journal.specs.gate_law.Holds.{Holds};
     ghost use Rattle.gate_journal.specs.gate_law.Promises.{IsAmong};
     ghost use Rattle.gate_events.specs.Seen.{event_seen};
+    ghost use Rattle.gate_core.specs.Board.{IsBoard};
     ghost use Rattle.gate_core.specs.Expected.{event_due, fault_now, logon_fault_now};
     ghost use Rattle.gate_core.specs.Targets.{client_for, port_for};
     ghost use Rattle.gate_journal.specs.Kept.{turns};
@@ -148,6 +150,14 @@ impl<S: BuildHasher + Drop> RecordedCore<S> {
             ((lists self.now.settings (turns self.now.kept)).port_calls port) }
     {
         self.core.port_fault(port)
+    }
+
+    /// How all clients and ports stand now. It goes through no order.
+    pub fn status(&self, alloc: Global) -> Result<Status, AllocError>
+        ensures { IfOk result (λ status. IsBoard self.now.settings (turns self.now.kept) status) }
+    {
+        let board = self.core.board(alloc)?;
+        Ok(Status::new(board))
     }
 
     /// The settings.

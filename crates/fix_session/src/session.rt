@@ -181,9 +181,17 @@ impl Session {
         self.given.undo();
     }
 
+    /// Whether the client is logged on.
+    pub fn is_logged_on(&self) -> bool
+        ensures { result ≡ is_logged_on self.now.session.phase }
+    {
+        matches!(self.phase, Phase::LoggedOn(_))
+    }
+
     /// The number of the next frame or issued body.
     pub fn next_out(&self) -> u64
-        ensures { (gate client : List ℕ) (h : SessionHistory) → Leaves gate client h self.now.session
+        ensures now { result ≡ next_out self.now.session }
+        ensures number { (gate client : List ℕ) (h : SessionHistory) → Leaves gate client h self.now.session
             → result ≡ length (given h) + 1 }
     {
         self.last() + 1

@@ -2,8 +2,10 @@
 
 ghost use Rattle.std.specs.Prelude.{[], ◌∷◌, ◌≡◌, length, IfOk, OnErr};
 
+use crate::board::Board;
 use crate::parts::Parts;
 use crate::parts::new::{orders, orders_with_hasher};
+use crate::rows::{client_rows, port_rows};
 use crate::targets::Targets;
 use fix_fields::Fields;
 use fix_session::LogonFault;
@@ -93,6 +95,7 @@ impl<S: BuildHasher + Drop> Core<S> {
     ghost use Rattle.gate_law.specs.After.{lists};
     ghost use Rattle.gate_law.specs.Holds.{Holds};
     ghost use Rattle.gate_law.specs.Promises.{IsAmong};
+    ghost use Rattle.gate_core.specs.Board.{IsBoard};
     ghost use Rattle.gate_core.specs.Core.{IsAfter, turn_of};
     ghost use Rattle.order_core.specs.State.{IsAfterTurns, core_clients, core_numbers};
     ghost use Rattle.gate_core.specs.Expected.{event_due, fault_now, logon_fault_now, next_expected};
@@ -232,5 +235,20 @@ impl<S: BuildHasher + Drop> Core<S> {
             → result ≡ fault_now s port ((lists s before).port_calls port) }
     {
         self.parts.port_fault(port)
+    }
+
+    /// How all clients and ports stand, and how many events were stepped. It goes through no order: its time is that of
+    /// a few numbers for each client and port.
+    pub fn board(&self, alloc: Global) -> Result<Board, AllocError>
+        ensures { IfOk result (λ board. (s : law.Settings) (before : History) → IsAfter s before self.now
+            → IsBoard s before board) }
+    {
+        let clients = client_rows(alloc, self.parts.clients.lines.as_slice())?;
+        let ports = port_rows(alloc, self.parts.ports.lines.as_slice())?;
+        Ok(Board {
+            events: self.events,
+            clients,
+            ports,
+        })
     }
 }
