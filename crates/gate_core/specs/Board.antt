@@ -12,6 +12,8 @@ use Rattle.gate_law.specs.After.{lists}
 use Rattle.gate_law.specs.Sessions.{port_state}
 use Rattle.gate_sessions.specs.declared.client_line.ClientLine.{ClientLine}
 use Rattle.gate_sessions.specs.declared.port_line.PortLine.{PortLine}
+use Rattle.gate_sessions.specs.order_law.History.{OrderHistory, issued}
+use Rattle.gate_sessions.specs.order_law.Verdicts.{open_orders}
 use Rattle.gate_core.specs.Core.{stepped}
 use Rattle.gate_core.specs.declared.board.Board.{Board}
 use Rattle.gate_core.specs.declared.board.ClientRow.{ClientRow}
@@ -21,12 +23,14 @@ use Rattle.gate_core.specs.declared.board.PortRow.{PortRow}
 abbrev pub session_after : Settings → ℕ → List Timed → State
 session_after s client calls = state_after s.comp (client_name s client) calls
 
--- A client of this number: its current link, whether its session is logged on, and the numbers that come next.
+-- A client of this number: its current link, whether its session is logged on, the numbers that come next, and how many
+-- of its orders aren't closed, as its own reports have it (FIX 4.4 Volume 4, "Execution Report").
 pub record IsClientRow (s : Settings) (v : Lists) (client : ℕ) (row : ClientRow) : Type 0 where
   pub link : row.link ≡ v.client_link client
   pub on : row.is_logged_on ≡ is_logged_on (session_after s client (v.client_calls client)).phase
   pub incoming : row.next_in ≡ (session_after s client (v.client_calls client)).expected
   pub outgoing : row.next_out ≡ next_out (session_after s client (v.client_calls client))
+  pub orders : row.open_orders ≡ open_orders (issued client v.turns)
 
 -- A port of this number: its current link, how its session stands, and the number of the next payload (SoupBinTCP 3.00,
 -- "Sequenced Data Packet").
@@ -53,14 +57,21 @@ pub record IsBoard (s : Settings) (h : History) (b : Board) : Type 0 where
 
 -- ---- as the code has them
 
--- the row of a client's line
-abbrev pub client_row_of : ClientLine → ClientRow
-client_row_of line = record {
+-- the row of a client's line, where so many of its orders are open
+abbrev pub client_row_of : ℕ → ClientLine → ClientRow
+client_row_of open_orders line = record {
   link = line.link;
   is_logged_on = is_logged_on line.session.session.phase;
   next_in = line.session.session.expected;
   next_out = next_out line.session.session;
+  open_orders = open_orders;
 }
+
+-- the rows of these lines after these turns: number i + 1 stands at place i
+abbrev pub AreRowsOf : OrderHistory → List ClientLine → List ClientRow → Type 0
+AreRowsOf turns lines rows =
+    (i : ℕ) (row : ClientRow) → slice_get rows i ≡ Some row
+    → (line : ClientLine) × (slice_get lines i ≡ Some line) × (row ≡ client_row_of (open_orders (issued (i + 1) turns)) line)
 
 -- and of a port's
 abbrev pub port_row_of : PortLine → PortRow

@@ -13,6 +13,8 @@ pub struct ClientRow {
     pub next_in: u64,
     /// The number of the next frame that it is sent.
     pub next_out: u64,
+    /// How many of its orders aren't closed, by its own reports (OrdStatus, 39).
+    pub open_orders: usize,
 }
 
 /// How a port stands.

@@ -1,7 +1,14 @@
-use Rattle.std.proofs.Common.{◌≡◌, map, take}
-use Rattle.gate_core.specs.Board.{client_row_of}
+use Rattle.std.proofs.Common.{◌≡◌, List, length}
+use Rattle.order_core.specs.History.{OrderHistory, Terms}
+use Rattle.order_core.specs.State.{IsAfterTurns}
+use Rattle.order_core.specs.order_machine.Runs.{NumbersLeft}
+use Rattle.gate_core.specs.Board.{AreRowsOf}
 use Rattle.gate_core.proofs.rows.client_rows.Given as goal
 
 -- those of the clients so far
 abbrev pub invariant-loop-line : goal.invariant-loop-line
-invariant-loop-line l = l.rows.items ≡ map client_row_of (take l.line-index l.lines)
+invariant-loop-line l = record {
+  count : length l.rows.items ≡ l.line-index;
+  rows : (terms : List Terms) (before : OrderHistory) → NumbersLeft before → IsAfterTurns terms before l.orders.now
+      → AreRowsOf before l.lines l.rows.items;
+}
