@@ -5,18 +5,25 @@ use desk_steps::{History, PortFault, RecordedCore, Settings, Side, Status, Turne
 use fix_fields::Fields;
 use fix_session::LogonFault;
 use gate_events::{ClientNumber, Event};
+use host_log::HostFile;
+use journal_days::{DayRecords, Version};
+use same_records::first_difference;
 use std::alloc::{AllocError, Global};
 use std::hash::{BuildHasher, BuildHasherDefault, FoldHasher};
 use std::marker::{Model, PhantomData};
+use turn_log::{DayLog, LogFault, TurnLog};
 
 /// What lies under the lock of a desk: the core with its history, and the desk's side of the rings. Contracts see both.
 ///
 /// Its type keeps that they agree, whichever thread had the lock: the core is the one that the history leaves, with all
 /// that is promised of that; the ends are those that the desk's name names; what came out of an inlet's ring is what
 /// the history has of its source; what went into an outlet's ring is what the batches told it, or a beginning of that.
+///
+/// Where it has a journal, what a step tells waits beside the rings until the step is in the journal's file, durably.
 pub struct Desk<K: DeskName, S: BuildHasher + Drop = BuildHasherDefault<FoldHasher>> {
     recorded: RecordedCore<S>,
     side: Side,
+    journal: Option<TurnLog<HostFile>>,
     of: PhantomData<K>,
 }
 
@@ -26,6 +33,7 @@ impl<K: DeskName, S: BuildHasher + Drop> Drop for Desk<K, S> {
         let Desk {
             recorded: _,
             side: _,
+            journal: _,
             of: _,
         } = self;
     }
@@ -41,11 +49,13 @@ impl<K: DeskName, S: BuildHasher + Drop> Model for Desk<K, S> {
     ghost invariant = { λ d. Agrees K.inlets K.outlets (record { recorded = d.recorded; side = d.side }) };
 }
 
-/// What is left of a desk that was closed: its history, and the settings of its core.
+/// What is left of a desk that was closed: its history, the settings of its core, and why its journal doesn't have all,
+/// if it had one that doesn't.
 #[derive(Drop)]
 pub struct Closed {
     pub history: History,
     pub settings: Settings,
+    pub lost: Option<LogFault>,
 }
 
 impl<K: DeskName, S: BuildHasher + Drop> Desk<K, S> {
@@ -68,8 +78,55 @@ impl<K: DeskName, S: BuildHasher + Drop> Desk<K, S> {
         Desk {
             recorded,
             side,
+            journal: None,
             of: PhantomData,
         }
+    }
+
+    /// From now on what is stepped is written into this log before anybody is told: the log has all of the history so
+    /// far. `AllocError` gives the log up, and leaves the desk without one.
+    pub(crate) fn begin_journal(&mut self, log: DayLog<HostFile>) -> Result<(), AllocError>
+        ensures { self.new ≡ self.old }
+    {
+        self.side.stage()?;
+        self.journal = Some(TurnLog::of(log, self.recorded.history()));
+        Ok(())
+    }
+
+    /// Has all that was stepped in the journal, durably, and then lets out what it told. Where there is none it does
+    /// nothing. `Failed` where the journal's file fails, and from then on: nobody is told anything any more. `NoMemory`
+    /// leaves all as it was.
+    pub(crate) fn keep(&mut self, alloc: Global) -> Result<(), LogFault>
+        ensures recorded { self.new.recorded ≡ self.old.recorded }
+    {
+        let Some(journal) = &mut self.journal else {
+            return Ok(());
+        };
+        journal.keep(alloc, self.recorded.history())?;
+        self.side.release();
+        Ok(())
+    }
+
+    /// Whether it has a journal.
+    pub(crate) fn has_journal(&self) -> bool {
+        self.journal.is_some()
+    }
+
+    /// Ends the journal, where there is one: it has all, and its end.
+    pub(crate) fn end_journal(&mut self) -> Result<(), LogFault>
+        ensures recorded { self.new.recorded ≡ self.old.recorded }
+    {
+        match &mut self.journal {
+            Some(journal) => journal.end(),
+            None => Ok(()),
+        }
+    }
+
+    /// `None` where the history has just the events and batches of this day; else how many batches are the same before
+    /// the first that differs.
+    pub(crate) fn first_other(&self, day: &History) -> Option<u64> {
+        let own = DayRecords::of(Version::Two, self.recorded.history().pages());
+        first_difference(own, DayRecords::of(Version::Two, day.pages()))
     }
 
     /// Goes once round the inlets, in order, and steps an event of each at most. An event waits where a ring is full to
@@ -156,7 +213,7 @@ impl<K: DeskName, S: BuildHasher + Drop> Desk<K, S> {
     }
 
     /// Ends the desk. All that is promised holds of its history, which has no events but those of the inlets' sources.
-    pub(crate) fn close(self) -> Closed
+    pub(crate) fn close(self, lost: Option<LogFault>) -> Closed
         ensures history { result.history ≡ self.recorded.kept }
         ensures settings { result.settings ≡ self.recorded.settings }
         ensures holds { Holds result.settings (turns result.history) }
@@ -165,9 +222,14 @@ impl<K: DeskName, S: BuildHasher + Drop> Desk<K, S> {
         let Desk {
             recorded,
             side: _,
+            journal: _,
             of: _,
         } = self;
         let (settings, history) = recorded.into_parts();
-        Closed { history, settings }
+        Closed {
+            history,
+            settings,
+            lost,
+        }
     }
 }

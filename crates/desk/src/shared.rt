@@ -3,19 +3,24 @@
 use crate::desk_value::{Closed, Desk};
 use crate::told_outlets::{ToldOutlets, WriteTold};
 use desk_ends::{DeskName, Finished};
-use desk_steps::{PortFault, Status, Turned};
+use desk_steps::{History, PortFault, Status, Turned};
 use fix_fields::Fields;
 use fix_session::LogonFault;
 use gate_events::{ClientNumber, Event};
+use host_log::HostFile;
 use std::alloc::{AllocError, Global};
 use std::hash::{BuildHasher, BuildHasherDefault, FoldHasher};
 use std::sync::atomic::{AtomicBool, Ordering};
 use std::sync::{Mutex, MutexGuard, Wait};
 use std::thread::Parker;
 use std::time::Duration;
+use turn_log::{DayLog, LogFault};
 
 /// So many rounds are made under one lock at most, before what they told is written.
 const UNDER_ONE_LOCK: u32 = 8;
+
+/// The same where there is a journal: one write and one sync are behind them all.
+const UNDER_ONE_SYNC: u32 = 64;
 
 /// So many rounds step what lies in a ring: it has as many places.
 const FOR_OTHERS: u32 = 1_024;
@@ -41,6 +46,8 @@ pub struct Shared<K: DeskName, S: BuildHasher + Drop = BuildHasherDefault<FoldHa
     wanted: AtomicBool,
     /// Memory was refused for an event in the rounds that were made last.
     is_refused: AtomicBool,
+    /// The journal's file failed: no more rounds are made, and nobody is told anything any more.
+    is_lost: AtomicBool,
     bells: Vec<Parker>,
 }
 
@@ -51,6 +58,7 @@ impl<K: DeskName, S: BuildHasher + Drop> Drop for Shared<K, S> {
             desk: _,
             wanted: _,
             is_refused: _,
+            is_lost: _,
             bells: _,
         } = self;
     }
@@ -69,6 +77,7 @@ impl<K: DeskName, S: BuildHasher + Drop> Shared<K, S> {
             desk: Mutex::new(desk),
             wanted: AtomicBool::new(false),
             is_refused: AtomicBool::new(false),
+            is_lost: AtomicBool::new(false),
             bells,
         }
     }
@@ -106,13 +115,16 @@ impl<K: DeskName, S: BuildHasher + Drop> Shared<K, S> {
                 left = FOR_OTHERS;
             }
             let desk = &mut *guard;
-            let made = rounds(desk, alloc, left.min(UNDER_ONE_LOCK), &mut turns);
-            let told = ToldOutlets::of_bits(desk.take_rung());
+            let Some(most) = self.most_rounds(desk) else {
+                return Ok(turns);
+            };
+            let made = rounds(desk, alloc, left.min(most), &mut turns);
+            let told = self.told_by(desk, alloc);
             drop(guard);
             writer.write_told(alloc, told);
             self.note_memory(&made);
             left = match made {
-                Ok(made) if made.is_all => left.saturating_sub(UNDER_ONE_LOCK),
+                Ok(made) if made.is_all => left.saturating_sub(most),
                 Ok(_) => 0,
                 Err(error) => {
                     let _ = self.wanted.swap(true, Ordering::SeqCst);
@@ -169,8 +181,83 @@ impl<K: DeskName, S: BuildHasher + Drop> Shared<K, S> {
     ) -> Result<(Turned, ToldOutlets), AllocError> {
         let mut guard = self.desk.lock(rt);
         let desk = &mut *guard;
+        if self.is_journal_lost() {
+            return Ok((
+                Turned {
+                    steps: 0,
+                    held: 0,
+                    refused: 0,
+                },
+                ToldOutlets::of_bits(0),
+            ));
+        }
         let turned = desk.round(alloc)?;
-        Ok((turned, ToldOutlets::of_bits(desk.take_rung())))
+        Ok((turned, self.told_by(desk, alloc)))
+    }
+
+    /// How many rounds are made under one lock at most; none any more where the journal is lost.
+    fn most_rounds(&self, desk: &Desk<K, S>) -> Option<u32> {
+        if self.is_journal_lost() {
+            return None;
+        }
+        Some(if desk.has_journal() {
+            UNDER_ONE_SYNC
+        } else {
+            UNDER_ONE_LOCK
+        })
+    }
+
+    /// Has what was stepped in the journal, where there is one, and gives the outlets that were told something that
+    /// isn't to wait. None where it couldn't be kept: then nobody has it yet. Where memory was refused for it, it is
+    /// tried again; where the file failed, never.
+    fn told_by(&self, desk: &mut Desk<K, S>, alloc: Global) -> ToldOutlets {
+        match desk.keep(alloc) {
+            Ok(()) => ToldOutlets::of_bits(desk.take_rung()),
+            Err(LogFault::NoMemory) => {
+                let _ = self.wanted.swap(true, Ordering::SeqCst);
+                ToldOutlets::of_bits(0)
+            }
+            Err(LogFault::Failed | LogFault::Ended) => {
+                self.is_lost.store(true, Ordering::SeqCst);
+                ToldOutlets::of_bits(0)
+            }
+        }
+    }
+
+    /// Whether the journal's file failed: no round is made any more, and nobody is told anything.
+    pub fn is_journal_lost(&self) -> bool {
+        self.is_lost.load(Ordering::SeqCst)
+    }
+
+    /// From now on what is stepped is in this log, durably, before anybody is told, once the lock could be had. The log
+    /// has all of the history so far. `AllocError` gives the log up.
+    pub fn begin_journal(&self, rt: &impl Wait, log: DayLog<HostFile>) -> Result<(), AllocError> {
+        let mut guard = self.desk.lock(rt);
+        let desk = &mut *guard;
+        desk.begin_journal(log)
+    }
+
+    /// `None` where the history has just the events and the batches of this day; else how many batches are the same
+    /// before the first that differs. It waits for the lock.
+    pub fn first_other(&self, rt: &impl Wait, day: &History) -> Option<u64> {
+        let guard = self.desk.lock(rt);
+        let desk = &*guard;
+        desk.first_other(day)
+    }
+
+    /// A round, and the outlets that it told something: nobody's bell rings, and nothing is written. For who steps a
+    /// day again before anybody is served.
+    pub fn turn_alone(
+        &self,
+        rt: &impl Wait,
+        alloc: Global,
+    ) -> Result<(Turned, ToldOutlets), AllocError> {
+        let mut guard = self.desk.lock(rt);
+        let desk = &mut *guard;
+        let turned = desk.round(alloc)?;
+        let prompt = self.told_by(desk, alloc);
+        let waiting = ToldOutlets::of_bits(desk.take_waiting());
+        Ok((turned, prompt.and(waiting)))
     }
 
     /// Rings the bells of the outlets that were told something that may wait, and nothing since that isn't to
@@ -269,12 +356,16 @@ impl<K: DeskName, S: BuildHasher + Drop> Shared<K, S> {
             desk,
             wanted: _,
             is_refused: _,
+            is_lost: _,
             bells,
         } = self;
         let mut desk = desk.into_inner();
         let mut finished = finished;
         match desk.settle(alloc, &mut finished) {
-            Ok(()) => Ok(desk.close()),
+            Ok(()) => match end_journal(&mut desk, alloc) {
+                Ok(lost) => Ok(desk.close(lost)),
+                Err(error) => Err((error, Shared::new(desk, bells), finished)),
+            },
             Err(error) => Err((error, Shared::new(desk, bells), finished)),
         }
     }
@@ -321,4 +412,21 @@ fn rounds<K: DeskName, S: BuildHasher + Drop>(
         is_all: true,
         is_refused,
     })
+}
+
+/// Has all in the journal, with its end, where there is one, and gives why it couldn't. Where memory is refused it may
+/// be tried again.
+fn end_journal<K: DeskName, S: BuildHasher + Drop>(
+    desk: &mut Desk<K, S>,
+    alloc: Global,
+) -> Result<Option<LogFault>, AllocError> {
+    let kept = match desk.keep(alloc) {
+        Ok(()) => desk.end_journal(),
+        Err(fault) => Err(fault),
+    };
+    match kept {
+        Ok(()) => Ok(None),
+        Err(LogFault::NoMemory) => Err(AllocError),
+        Err(fault) => Ok(Some(fault)),
+    }
 }

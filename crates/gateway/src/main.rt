@@ -4,17 +4,14 @@
 use gateway_command::{Asked, asked, links_of};
 use gateway_demo::{Choice, show_demo};
 use gateway_run::{
-    Day, RunFault, SettingsFault, SettingsFile, audit_day, end_day, read, run_settings, tell,
+    Day, DayJournal, RunFault, SettingsFault, SettingsFile, audit_day, read, run_settings, tell,
 };
 use journal_audit::{audit_file, script_file};
 use script_command::{audit_script, tell_refusal};
-use stderr_queue::{LineQueue, Queued, start_writer};
 use std::alloc::Global;
-use std::fs::{File, OpenOptions};
 use std::hash::RandomState;
 use std::io::{self, BufWriter, ErrorKind, Write};
 use std::net::{Net, TcpListener, TcpStream};
-use std::os::unix::fs::OpenOptionsExt;
 use std::process::ExitCode;
 use std::random::RandomSource;
 use std::sync::{Arc, Wait};
@@ -23,10 +20,12 @@ use std::time::{Clock, Duration};
 use std::{env, fs};
 use stderr_queue::{LineQueue, Queued, start_writer};
 
+mod journal;
 #[cfg(test)]
 mod missing_files;
 mod served;
 
+use journal::journal_at;
 use served::{asked_serve, end_served, serve_until_told};
 
 fn main(rt: HostRuntime) -> ExitCode {
@@ -153,10 +152,10 @@ fn settings_at(rt: &HostRuntime, path: &str) -> Result<SettingsFile, ExitCode> {
 struct AskedRun {
     file: SettingsFile,
     links: u16,
-    journal: Option<File>,
+    journal: Option<DayJournal>,
 }
 
-/// What `run` asks for, or the status where it is refused. The journal's file is made, and may not be there before.
+/// What `run` asks for, or the status where it is refused. A journal's file is made, or is of a day that goes on.
 fn asked_run(
     rt: &HostRuntime,
     settings: &str,
@@ -168,7 +167,7 @@ fn asked_run(
     };
     let file = settings_at(rt, settings)?;
     let journal = match journal {
-        Some(path) => Some(new_file(rt, path)?),
+        Some(path) => Some(journal_at(rt, path)?),
         None => None,
     };
     Ok(AskedRun {
@@ -176,28 +175,6 @@ fn asked_run(
         links,
         journal,
     })
-}
-
-/// A file that is made new, which its owner alone may read and write, or the status where it can't be.
-fn new_file(rt: &HostRuntime, path: &str) -> Result<File, ExitCode> {
-    let mut options = OpenOptions::new();
-    match options
-        .write(true)
-        .create_new(true)
-        .mode(0o600)
-        .open(rt, path)
-    {
-        Ok(file) => Ok(file),
-        Err(error) if error.kind() == ErrorKind::OutOfMemory => Err(out_of_memory(rt)),
-        Err(error) if error.kind() == ErrorKind::AlreadyExists => {
-            let _ = eprintln!(rt; "gateway: {path} is there already");
-            Err(ExitCode::from(2))
-        }
-        Err(_) => {
-            let _ = eprintln!(rt; "gateway: cannot write {path}");
-            Err(ExitCode::from(2))
-        }
-    }
 }
 
 /// Runs a gateway by its settings, and ends its day.
@@ -233,10 +210,10 @@ where
         journal,
     } = asked;
     let queued = Queued::new(*rt, &lines);
-    let ran = run_settings(&queued, alloc, hasher, file, u32::from(links));
+    let ran = run_settings(&queued, alloc, hasher, file, u32::from(links), journal);
     lines.end(rt);
     let status = match ran {
-        Ok(day) => ended(alloc, &day, journal, &mut output, faults),
+        Ok(day) => ended(alloc, &day, &mut output, faults),
         Err(fault) => tell(fault, faults),
     };
     ExitCode::from(status)
@@ -254,18 +231,14 @@ where
     }
 }
 
-/// Ends a day: writes its journal, where there is to be one, and its audit.
-fn ended<W: Write, F: Write>(
-    alloc: Global,
-    day: &Day,
-    journal: Option<File>,
-    output: &mut W,
-    faults: &mut F,
-) -> u8 {
-    match journal {
-        Some(mut journal) => end_day(alloc, day, &mut journal, output, faults),
-        None => audit_day(alloc, day, output, faults),
+/// Ends a day: writes its audit. The status is 1 too where its journal's file failed.
+fn ended<W: Write, F: Write>(alloc: Global, day: &Day, output: &mut W, faults: &mut F) -> u8 {
+    let status = audit_day(alloc, day, output, faults);
+    if !day.is_journal_lost() {
+        return status;
     }
+    let _ = writeln!(faults, "gateway: journal: write failed");
+    status.max(1)
 }
 
 /// Shows a gateway on loopback.

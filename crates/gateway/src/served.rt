@@ -1,13 +1,13 @@
 //! `serve` and `end`.
 
-use super::{ended, file_at, lines_of, new_file, no_seed, out_of_memory};
-use gateway_run::{RunFault, SettingsFault, SettingsFile, read, tell};
+use super::journal::journal_at;
+use super::{ended, file_at, lines_of, no_seed, out_of_memory};
+use gateway_run::{DayJournal, RunFault, SettingsFault, SettingsFile, read, tell};
 use gateway_serve::{
     Bound, ControlSettings, OperatorFault, OperatorSettings, Told, bind_all, read_operator,
     serve_day, tell_end, tell_open_orders,
 };
 use std::alloc::Global;
-use std::fs::File;
 use std::hash::RandomState;
 use std::io::{self, BufWriter, Write};
 use std::net::{Net, TcpListener, TcpStream};
@@ -24,7 +24,7 @@ pub(crate) struct AskedServe {
     file: SettingsFile,
     operator: OperatorSettings,
     bound: Bound,
-    journal: Option<File>,
+    journal: Option<DayJournal>,
 }
 
 /// What a settings file says, of the gateway and of its operator, or the status where it is refused.
@@ -65,7 +65,7 @@ pub(crate) fn asked_serve(
         Err(_) => return Err(out_of_memory(rt)),
     };
     let journal = match journal {
-        Some(path) => Some(new_file(rt, path)?),
+        Some(path) => Some(journal_at(rt, path)?),
         None => None,
     };
     Ok(AskedServe {
@@ -117,11 +117,11 @@ where
     let Ok(theirs) = Arc::try_clone(&lines) else {
         return ExitCode::from(tell(RunFault::NoMemory, faults));
     };
-    let ran = serve_day(rt, alloc, hasher, file, operator, bound, theirs);
+    let ran = serve_day(rt, alloc, hasher, file, operator, bound, theirs, journal);
     lines.end(rt);
     let status = match ran {
         Ok(day) => {
-            let status = ended(alloc, &day, journal, &mut output, faults);
+            let status = ended(alloc, &day, &mut output, faults);
             tell_open_orders(alloc, &day, faults);
             status
         }

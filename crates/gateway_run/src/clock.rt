@@ -116,6 +116,9 @@ impl<'a, K: DeskName, R: Wait + time::Clock + Eprint> Watch<'a, K, R> {
         }
         self.memory
             .look(self.shared.is_memory_refused(), clock.now_ms());
+        if self.shared.is_journal_lost() {
+            self.is_over.store(true, Ordering::SeqCst);
+        }
         self.look();
     }
 

@@ -19,6 +19,7 @@ pub struct Day {
     history: History,
     settings: Settings,
     fault: Option<LinkFault>,
+    is_lost: bool,
 }
 
 impl Model for Day {
@@ -39,7 +40,12 @@ impl Day {
     ghost use Rattle.audit_lines.specs.gate_audit.gate_journal.Kept.{turns};
 
     /// A day of this history by these settings, with the first fault of a link. Takes no memory.
-    pub(crate) fn new(history: History, settings: Settings, fault: Option<LinkFault>) -> Day
+    pub(crate) fn new(
+        history: History,
+        settings: Settings,
+        fault: Option<LinkFault>,
+        is_lost: bool,
+    ) -> Day
         requires { Holds settings (turns history) }
         ensures { result ≡ record { settings = settings; kept = history; fault = fault } }
     {
@@ -47,6 +53,7 @@ impl Day {
             history,
             settings,
             fault,
+            is_lost,
         }
     }
 
@@ -63,6 +70,11 @@ impl Day {
         ensures { result.now ≡ self.now.settings }
     {
         &self.settings
+    }
+
+    /// Whether its journal's file failed: the journal may lack what nobody was told, and its end.
+    pub fn is_journal_lost(&self) -> bool {
+        self.is_lost
     }
 
     /// The first fault of a link: of the clients' in their order, then of the ports'. `None` where no link had one.
@@ -143,6 +155,10 @@ pub fn tell<F: Write>(fault: RunFault, faults: &mut F) -> u8
     let _ = match fault {
         RunFault::NoMemory => writeln!(faults, "out of memory"),
         RunFault::NoThread => writeln!(faults, "gateway: no thread"),
+        RunFault::OtherDay(place) => writeln!(
+            faults,
+            "gateway: journal: event {place} isn't what these settings give"
+        ),
     };
     1
 }

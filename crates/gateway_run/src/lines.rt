@@ -207,9 +207,7 @@ pub(crate) fn pens_of<'a, W: Prompt + Drop, K: DeskName, R: Clock + Eprint>(
     shared: &'a Shared<K, RandomState>,
     outlets: Vec<Outlet<K>>,
     tells_frames: bool,
-) -> Result<Vec<OutletPen<W, WritingGate<'a, K, R>>>, AllocError>
-    requires fresh { All (λ outlet. outlet.took ≡ []) outlets.items }
-{
+) -> Result<Vec<OutletPen<W, WritingGate<'a, K, R>>>, AllocError> {
     let mut pens = Vec::with_capacity(alloc, outlets.len())?;
     for outlet in outlets {
         let teller = teller_of(rt, tells_frames, &outlet.recipient());

@@ -10,6 +10,7 @@ use crate::day::Day;
 use crate::ends::{Ends, RunPlan, ends_of};
 use crate::fault::RunFault;
 use crate::lines::{Count, Left, pens_of, ticks_of};
+use crate::resuming::{DayJournal, go_on};
 use audit_lines::Settings;
 use desk_gates::{
     Closed, DeskName, Finished, Inlet, OutletEnd, OutletPen, Parts, Prompt, Shared, open_desk,
@@ -57,15 +58,17 @@ where
     C: Opener<Reader = A::Reader, Writer = A::Writer, Closer = A::Closer> + Send + Drop,
 {
     let board = StatusBoard::new();
-    run_shown(rt, alloc, hasher, settings, plan, is_over, &board)
+    run_shown(rt, alloc, hasher, settings, None, plan, is_over, &board)
 }
 
-/// The same, with how all stand on this board, once a second, for whoever looks at it.
+/// The same, with how all stand on this board, once a second, for whoever looks at it. Where there is a journal the day
+/// goes on behind what it has, and all that is stepped is in it, durably, before anybody is told; it ends with the day.
 pub fn run_shown<R, A, C>(
     rt: &R,
     alloc: Global,
     hasher: RandomState,
     settings: Settings,
+    journal: Option<DayJournal>,
     plan: RunPlan<A, C>,
     is_over: &AtomicBool,
     board: &StatusBoard,
@@ -83,7 +86,7 @@ where
         ports: settings.ports().len() as u16,
     };
     let parts = Parts::with_hasher(alloc, hasher, settings)?;
-    run_desk::<Brand, R, A, C>(rt, alloc, parts, count, plan, is_over, board)
+    run_desk::<Brand, R, A, C>(rt, alloc, parts, journal, count, plan, is_over, board)
 }
 
 /// Opens the desk of these parts, serves it and closes it.
@@ -91,6 +94,7 @@ fn run_desk<K, R, A, C>(
     rt: &R,
     alloc: Global,
     parts: Parts<RandomState>,
+    journal: Option<DayJournal>,
     count: Count,
     plan: RunPlan<A, C>,
     is_over: &AtomicBool,
@@ -107,7 +111,10 @@ where
     requires named { (parts.inlets ≡ K.inlets) × (parts.outlets ≡ K.outlets) }
     requires clock { 0 < length parts.inlets }
 {
-    let (shared, inlets, outlets) = open_desk::<K, RandomState>(alloc, parts)?;
+    let (shared, mut inlets, mut outlets) = open_desk::<K, RandomState>(alloc, parts)?;
+    if let Some(journal) = journal {
+        go_on(rt, alloc, &shared, &mut inlets, &mut outlets, journal)?;
+    }
     let counts = ClientCounts::of(plan.clients.len().min(usize::from(count.clients)) as u32);
     let pens = pens_of::<A::Writer, K, R>(rt, alloc, &shared, outlets, plan.rules.tells_frames)?;
     let mut left = serve_desk(
@@ -124,7 +131,12 @@ where
     )?;
     left.end_outlets(pens)?;
     let closed = close_desk(rt, alloc, shared, left.finished)?;
-    Ok(Day::new(closed.history, closed.settings, left.fault))
+    Ok(Day::new(
+        closed.history,
+        closed.settings,
+        left.fault,
+        closed.lost.is_some(),
+    ))
 }
 
 /// Closes a desk whose ends have finished: of each inlet that is handed in the history has just what was put. Where

@@ -5,13 +5,12 @@ ghost use Rattle.std.specs.Prelude.{◌<◌, ◌^◌, IfSome};
 use crate::day_flags::DayFlags;
 use gateway_control::DayControl;
 use operator_settings::{DaySettings, next_at};
-use stderr_queue::LineQueue;
 use std::alloc::Global;
 use std::sync::{Arc, Wait};
 use std::thread;
 use std::thread::{JoinHandle, Threads};
 use std::time::{Clock, Duration};
-use stderr_queue::LineQueue;
+use stderr_queue::{LineQueue, LineQueue};
 
 /// How often in a second it is looked whether the day is to end.
 const LOOKS: u64 = 20;
@@ -53,7 +52,12 @@ fn watch<R: Clock + Wait>(
         (Some(time), Some(now)) => Some(next_at(now, time)),
         _ => None,
     };
-    if !waits_for_the_end(rt, end, control) {
+    if !waits_for_the_end(rt, end, control, flags) {
+        return;
+    }
+    if flags.is_over() {
+        let _ = lines.tell(rt, "gateway: journal: write failed: nothing more is told");
+        flags.end_clients();
         return;
     }
     let _ = lines.tell(rt, "gateway: the day ends: no further link is taken");
@@ -67,13 +71,19 @@ fn watch<R: Clock + Wait>(
     flags.end_clients();
 }
 
-/// Waits until the day is to end, by its time or since it is told to; `false` where it is over before.
-fn waits_for_the_end<R: Clock>(rt: &R, end: Option<u64>, control: &DayControl) -> bool {
+/// Waits until the day is to end, by its time, since it is told to, or since its journal is lost; `false` where it is
+/// over before.
+fn waits_for_the_end<R: Clock>(
+    rt: &R,
+    end: Option<u64>,
+    control: &DayControl,
+    flags: &DayFlags,
+) -> bool {
     for _ in 0..u64::MAX {
         if control.is_over() {
             return false;
         }
-        if control.is_ending() || is_reached(rt, end) {
+        if control.is_ending() || flags.is_over() || is_reached(rt, end) {
             return true;
         }
         thread::sleep(rt, look());

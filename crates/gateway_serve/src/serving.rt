@@ -6,9 +6,11 @@ use crate::ending::end_in_time;
 use crate::served_port::ServedPort;
 use crate::waiting_room::WaitingRoom;
 use gateway_control::{DayControl, Endpoint, serve_endpoint};
-use gateway_run::{Day, LinkRules, RunFault, RunPlan, SettingsFile, Teller, Whose, run};
+use gateway_run::{
+    Day, DayJournal, LinkRules, RunFault, RunPlan, SettingsFile, StatusBoard, Teller, Whose,
+    run_shown,
+};
 use operator_settings::{AddressRange, OperatorSettings};
-use stderr_queue::{LineQueue, Queued};
 use std::alloc::{AllocError, Global};
 use std::hash::RandomState;
 use std::net::{Net, TcpListener, TcpStream};
@@ -16,7 +18,7 @@ use std::random::RandomSource;
 use std::sync::{Arc, Wait};
 use std::thread::Threads;
 use std::time::Clock;
-use stderr_queue::{LineQueue, Queued};
+use stderr_queue::{LineQueue, LineQueue, Queued, Queued};
 
 /// Serves the gateway of a settings file over these listeners until it is told to end, by its control endpoint or by
 /// its time of day, and gives its day. Tells of each link that comes and goes, in lines of this queue.
@@ -30,6 +32,7 @@ pub fn serve_day<R>(
     operator: OperatorSettings,
     bound: Bound,
     lines: Arc<LineQueue>,
+    journal: Option<DayJournal>,
 ) -> Result<Day, RunFault>
 where
     R: Threads
@@ -64,7 +67,19 @@ where
     } = file;
     let queued = Queued::new(*rt, &lines);
     let ran = match plan_of(&queued, alloc, clients, &from, &addresses, &flags) {
-        Ok(plan) => run(&queued, alloc, hasher, settings, plan, flags.ports()),
+        Ok(plan) => {
+            let board = StatusBoard::new();
+            run_shown(
+                &queued,
+                alloc,
+                hasher,
+                settings,
+                journal,
+                plan,
+                flags.ports(),
+                &board,
+            )
+        }
         Err(_) => Err(RunFault::NoMemory),
     };
     asked.close();
