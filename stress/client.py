@@ -101,7 +101,7 @@ class Client:
         self.session.begin(now)
         self.may_be_closed, self.hushed_at, self.stalled_until, self.bad = False, 0.0, 0.0, False
         self.said_all = self.has_stalled = False
-        self.opened_at = now
+        self.opened_at, self.killed = now, self.day.killed.value
         if may_lose and self.random.random() < 0.1:
             self.log_on_wrongly(now)
         else:
@@ -167,7 +167,7 @@ class Client:
         """A link that is no longer open: whether it ended as it had to."""
         if not self.link or self.link.is_open:
             return
-        cut = self.link.was_cut
+        cut = self.link.was_cut or self.day.killed.value != self.killed
         self.counts["links cut" if cut else "links that the gateway closed"] += 1
         if not cut and not self.session.ended and not self.may_be_closed:
             self.complain("the gateway closed the link without a word")

@@ -3,7 +3,8 @@
 use super::out_of_memory;
 use gateway_run::DayJournal;
 use host_log::{FoundLog, OpenFault, StoppedLog, open_log};
-use journal_file::{DayFile, Ending, FileFault, History, PageFault, read_file};
+use gate_journal::History;
+use journal_file::{DayFile, Ending, FileFault, PageFault, read_file};
 use std::process::ExitCode;
 
 /// The journal at a path: made new, or a day that stopped and goes on. It is locked as long as the gateway runs. The

@@ -3,10 +3,10 @@
 ghost use Rattle.std.specs.Prelude.{◌≡◌, length};
 
 use crate::fault::RunFault;
+use audit_lines::History;
 use desk_gates::{DayLog, DeskName, HostFile, Inlet, Outlet, Shared, ToldOutlets};
 use gate_events::Event;
 use gate_serving::Clock as _;
-use journal_file::History;
 use link_sockets::SystemClock;
 use open_links::open_links;
 use std::alloc::Global;

@@ -34,8 +34,11 @@ impl<F: LogFile> TurnLog<F> {
         if now == self.mark {
             return Ok(());
         }
+        let page = page_since(alloc, pages, &self.mark)?;
         let mut written = Vec::with_capacity(alloc, 1)?;
-        written.push(page_since(alloc, pages, &self.mark)?)?;
+        if written.push(page).is_err() {
+            return Err(LogFault::NoMemory);
+        }
         let more = count(DayRecords::of(Version::Two, written.as_slice()));
         for page in written.as_slice() {
             self.log.commit(page.as_slice())?;
