@@ -21,7 +21,6 @@ use std::sync::{Arc, Wait};
 use std::thread::Threads;
 use std::time::{Clock, Duration};
 use std::{env, fs};
-use stderr_queue::{LineQueue, Queued, start_writer};
 
 #[cfg(test)]
 mod missing_files;

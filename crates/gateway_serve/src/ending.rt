@@ -11,7 +11,6 @@ use std::sync::{Arc, Wait};
 use std::thread;
 use std::thread::{JoinHandle, Threads};
 use std::time::{Clock, Duration};
-use stderr_queue::LineQueue;
 
 /// How often in a second it is looked whether the day is to end.
 const LOOKS: u64 = 20;

@@ -16,7 +16,6 @@ use std::random::RandomSource;
 use std::sync::{Arc, Wait};
 use std::thread::Threads;
 use std::time::Clock;
-use stderr_queue::{LineQueue, Queued};
 
 /// Serves the gateway of a settings file over these listeners until it is told to end, by its control endpoint or by
 /// its time of day, and gives its day. Tells of each link that comes and goes, in lines of this queue.
