@@ -5,12 +5,12 @@ ghost use Rattle.std.specs.Prelude.{◌<◌, ◌^◌, IfSome};
 use crate::day_flags::DayFlags;
 use gateway_control::DayControl;
 use operator_settings::{DaySettings, next_at};
-use stderr_queue::LineQueue;
 use std::alloc::Global;
 use std::sync::{Arc, Wait};
 use std::thread;
 use std::thread::{JoinHandle, Threads};
 use std::time::{Clock, Duration};
+use stderr_queue::LineQueue;
 
 /// How often in a second it is looked whether the day is to end.
 const LOOKS: u64 = 20;

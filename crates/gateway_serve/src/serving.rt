@@ -8,7 +8,6 @@ use crate::waiting_room::WaitingRoom;
 use gateway_control::{DayControl, Endpoint, serve_endpoint};
 use gateway_run::{Day, LinkRules, RunFault, RunPlan, SettingsFile, Teller, Whose, run};
 use operator_settings::{AddressRange, OperatorSettings};
-use stderr_queue::{LineQueue, Queued};
 use std::alloc::{AllocError, Global};
 use std::hash::RandomState;
 use std::net::{Net, TcpListener, TcpStream};
@@ -16,6 +15,7 @@ use std::random::RandomSource;
 use std::sync::{Arc, Wait};
 use std::thread::Threads;
 use std::time::Clock;
+use stderr_queue::{LineQueue, Queued};
 
 /// Serves the gateway of a settings file over these listeners until it is told to end, by its control endpoint or by
 /// its time of day, and gives its day. Tells of each link that comes and goes, in lines of this queue.
