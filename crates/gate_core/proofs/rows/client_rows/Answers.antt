@@ -4,7 +4,7 @@ use Rattle.gate_core.proofs.Shown.{row-added}
 use Rattle.gate_core.proofs.rows.client_rows.Goals as goal
 
 pub loop-line-preserved : goal.loop-line-preserved
-loop-line-preserved c =
+loop-line-preserved g c =
     let more : c.push.new.self.items ≡ c.loop-line.rows.items ++ c.client_row.result ∷ [] = c.in_ok-push.ensures.items in
     record {
       count = omega (arith, ap length more, length-append c.loop-line.rows.items (c.client_row.result ∷ []), c.loop-line.invariant.count);
