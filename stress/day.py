@@ -115,6 +115,7 @@ class Day:
         self.plan.killed.value += 1
         self.gateway.kill()
         self.gateway.wait()
+        self.plan.killed.value += 1
         self.start_gateway()
 
     def trade(self, seconds):

@@ -1,9 +1,9 @@
 //! The journal of a day that is served.
 
 use super::out_of_memory;
+use gate_journal::History;
 use gateway_run::DayJournal;
 use host_log::{FoundLog, OpenFault, StoppedLog, open_log};
-use gate_journal::History;
 use journal_file::{DayFile, Ending, FileFault, PageFault, read_file};
 use std::process::ExitCode;
 

@@ -1,11 +1,11 @@
 //! How far a history is in its log.
 
-ghost use Rattle.std.specs.Prelude.{◌≡◌, ◌++◌, ◌≤◌, length, IfOk};
-ghost use Rattle.journal_days.specs.Cut.{texts};
+ghost use Rattle.std.specs.Prelude.{◌≡◌, ◌++◌, drop, length, IfOk, OnOk};
+ghost use Rattle.journal_days.specs.Cut.{last_size, texts};
 ghost use Rattle.journal_pages.specs.Page.{page_front};
-ghost use Rattle.turn_log.specs.Since.{bytes_behind, mark_of, records_counted, text_since};
+ghost use Rattle.turn_log.specs.Since.{bytes_from, bytes_of, bytes_since, counted};
 
-use journal_days::{DayRecords, Version};
+use journal_days::DayRecords;
 use std::alloc::{AllocError, Global};
 
 /// What a page begins with: the journal's name and version.
@@ -25,7 +25,8 @@ pub(crate) struct Mark {
 
 /// Where these pages end, behind so many records. Takes no memory.
 pub(crate) fn mark_at(pages: &[Vec<u8>], records: u64) -> Mark
-    ensures { result ≡ mark_of records (texts pages.now) }
+    ensures pages { result.pages ≡ length pages.now }
+    ensures records { result.records ≡ records }
 {
     let bytes = match pages.last() {
         Some(last) => last.len(),
@@ -40,7 +41,7 @@ pub(crate) fn mark_at(pages: &[Vec<u8>], records: u64) -> Mark
 
 /// How many records there are, as a number of 64 bits. Takes no memory.
 pub(crate) fn count(records: DayRecords<'_>) -> u64
-    ensures { result ≡ records_counted records.entry }
+    ensures { result ≡ counted records.entry }
 {
     let mut rest = records;
     let mut count = 0u64;
@@ -58,44 +59,69 @@ pub(crate) fn page_since(
     mark: &Mark,
 ) -> Result<Vec<u8>, AllocError>
     ensures { IfOk result (λ page. page.items
-        ≡ page_front mark.now.records ++ text_since mark.now.pages mark.now.bytes (texts pages.now)) }
+        ≡ page_front mark.now.records ++ bytes_since mark.now.pages mark.now.bytes pages.now) }
 {
     let mut page = Vec::new(alloc);
     page.extend_from_slice(PAGE_NAME)?;
     page.extend_from_slice(&mark.records.to_be_bytes())?;
-    append_since(&mut page, pages, mark)?;
+    append_since(&mut page, pages, mark.pages, mark.bytes)?;
     Ok(page)
 }
 
-/// The records that these pages have behind a mark.
-fn append_since(out: &mut Vec<u8>, pages: &[Vec<u8>], mark: &Mark) -> Result<(), AllocError> {
-    let Some(whole) = mark.pages.checked_sub(1) else {
-        return append_behind(out, pages);
-    };
-    let Some((last, behind)) = rest_of(pages, whole) else {
-        return Ok(());
-    };
-    append_from(out, last.as_slice(), mark.bytes)?;
-    append_behind(out, behind)
+/// The records that these pages have behind so many, of the last of which so many bytes count.
+fn append_since(
+    out: &mut Vec<u8>,
+    pages: &[Vec<u8>],
+    count: usize,
+    bytes: usize,
+) -> Result<(), AllocError>
+    ensures { OnOk result (out.new.items ≡ out.old.items ++ bytes_since count bytes pages.now) }
+{
+    if count == 0 {
+        return append_pages(out, pages);
+    }
+    append_from(out, pages_behind(pages, count - 1), bytes)
 }
 
-/// The page behind so many, and those behind it.
-fn rest_of(pages: &[Vec<u8>], whole: usize) -> Option<(&Vec<u8>, &[Vec<u8>])> {
-    pages.get(whole..)?.split_first()
+/// The pages behind so many.
+fn pages_behind(pages: &[Vec<u8>], count: usize) -> &[Vec<u8>]
+    ensures { result.now ≡ drop count pages.now }
+{
+    match pages.get(count..) {
+        Some(rest) => rest,
+        None => &[],
+    }
+}
+
+/// The records of these pages, of the first one those behind so many of its bytes.
+fn append_from(out: &mut Vec<u8>, pages: &[Vec<u8>], bytes: usize) -> Result<(), AllocError>
+    ensures { OnOk result (out.new.items ≡ out.old.items ++ bytes_from bytes (texts pages.now)) }
+{
+    let Some((page, behind)) = pages.split_first() else {
+        return Ok(());
+    };
+    append_behind(out, page.as_slice(), bytes)?;
+    append_pages(out, behind)
 }
 
 /// The records of these pages.
-fn append_behind(out: &mut Vec<u8>, pages: &[Vec<u8>]) -> Result<(), AllocError> {
-    for page in pages {
-        append_from(out, page.as_slice(), FRONT)?;
+fn append_pages(out: &mut Vec<u8>, pages: &[Vec<u8>]) -> Result<(), AllocError>
+    ensures { OnOk result (out.new.items ≡ out.old.items ++ bytes_of (texts pages.now)) }
+{
+    let mut rest = pages;
+    while let Some((page, behind)) = rest.split_first() {
+        append_behind(out, page.as_slice(), FRONT)?;
+        rest = behind;
     }
     Ok(())
 }
 
-/// The bytes of a page from a place on.
-fn append_from(out: &mut Vec<u8>, page: &[u8], from: usize) -> Result<(), AllocError> {
-    match page.get(from..) {
-        Some(bytes) => out.extend_from_slice(bytes),
+/// The bytes of a page behind so many.
+fn append_behind(out: &mut Vec<u8>, page: &[u8], bytes: usize) -> Result<(), AllocError>
+    ensures { OnOk result (out.new.items ≡ out.old.items ++ drop bytes page.now) }
+{
+    match page.get(bytes..) {
+        Some(rest) => out.extend_from_slice(rest),
         None => Ok(()),
     }
 }
