@@ -6,8 +6,7 @@ use fix_fields::Fields;
 use fix_session::LogonFault;
 use gate_events::{ClientNumber, Event};
 use host_log::HostFile;
-use journal_days::{DayRecords, Version};
-use same_records::first_difference;
+use same_days::first_other;
 use std::alloc::{AllocError, Global};
 use std::hash::{BuildHasher, BuildHasherDefault, FoldHasher};
 use std::marker::{Model, PhantomData};
@@ -59,7 +58,8 @@ pub struct Closed {
 }
 
 impl<K: DeskName, S: BuildHasher + Drop> Desk<K, S> {
-    ghost use Rattle.std.specs.Prelude.{◌≡◌, IfOk, OnOk, OnErr};
+    ghost use Rattle.std.specs.Prelude.{◌≡◌, IfOk, MatchOption, OnOk, OnErr};
+    ghost use Rattle.same_days.specs.Same.{IsOtherAt, IsSameDay};
     ghost use Rattle.gate_law.specs.After.{lists};
     ghost use Rattle.gate_law.specs.Holds.{Holds};
     ghost use Rattle.desk_steps.specs.gate_core.Board.{IsBoard};
@@ -124,9 +124,11 @@ impl<K: DeskName, S: BuildHasher + Drop> Desk<K, S> {
 
     /// `None` where the history has just the events and batches of this day; else how many batches are the same before
     /// the first that differs.
-    pub(crate) fn first_other(&self, day: &History) -> Option<u64> {
-        let own = DayRecords::of(Version::Two, self.recorded.history().pages());
-        first_difference(own, DayRecords::of(Version::Two, day.pages()))
+    pub(crate) fn first_other(&self, day: &History) -> Option<u64>
+        ensures { MatchOption result (IsSameDay self.now.recorded.kept day.now)
+            (λ place. IsOtherAt place self.now.recorded.kept day.now) }
+    {
+        first_other(self.recorded.history(), day)
     }
 
     /// Goes once round the inlets, in order, and steps an event of each at most. An event waits where a ring is full to

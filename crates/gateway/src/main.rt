@@ -4,11 +4,13 @@
 use gateway_command::{Asked, asked, links_of};
 use gateway_demo::{Choice, show_demo};
 use gateway_run::{
-    Day, DayJournal, RunFault, SettingsFault, SettingsFile, audit_day, read, run_settings, tell,
+    Day, DayJournal, RunFault, SettingsFault, SettingsFile, audit_day, end_day, read, run_settings,
+    tell,
 };
 use journal_audit::{audit_file, script_file};
 use script_command::{audit_script, tell_refusal};
 use std::alloc::Global;
+use std::fs::{File, Files};
 use std::hash::RandomState;
 use std::io::{self, BufWriter, ErrorKind, Write};
 use std::net::{Net, TcpListener, TcpStream};
@@ -149,24 +151,26 @@ fn settings_at(rt: &HostRuntime, path: &str) -> Result<SettingsFile, ExitCode> {
 /// A gateway that is to be run: its settings, how many links of each client are served, and where its day's journal
 /// goes.
 #[derive(Drop)]
-struct AskedRun {
+struct AskedRun<'a> {
     file: SettingsFile,
     links: u16,
     journal: Option<DayJournal>,
+    /// Where the journal is.
+    path: Option<&'a str>,
 }
 
 /// What `run` asks for, or the status where it is refused. A journal's file is made, or is of a day that goes on.
-fn asked_run(
+fn asked_run<'a>(
     rt: &HostRuntime,
     settings: &str,
     links: Option<&str>,
-    journal: Option<&str>,
-) -> Result<AskedRun, ExitCode> {
+    path: Option<&'a str>,
+) -> Result<AskedRun<'a>, ExitCode> {
     let Some(links) = links_of(links) else {
         return Err(refused(rt, "--links is a number from 1 to 1000"));
     };
     let file = settings_at(rt, settings)?;
-    let journal = match journal {
+    let journal = match path {
         Some(path) => Some(journal_at(rt, path)?),
         None => None,
     };
@@ -174,11 +178,12 @@ fn asked_run(
         file,
         links,
         journal,
+        path,
     })
 }
 
 /// Runs a gateway by its settings, and ends its day.
-fn serve_file<R, F: Write>(rt: &R, alloc: Global, asked: AskedRun, faults: &mut F) -> ExitCode
+fn serve_file<R, F: Write>(rt: &R, alloc: Global, asked: AskedRun<'_>, faults: &mut F) -> ExitCode
 where
     R: Threads
         + Wait
@@ -186,6 +191,7 @@ where
         + Clock
         + Net<Listener = TcpListener, Stream = TcpStream>
         + RandomSource
+        + Files<File = File>
         + Print
         + Eprint
         + Copy
@@ -208,12 +214,13 @@ where
         file,
         links,
         journal,
+        path,
     } = asked;
     let queued = Queued::new(*rt, &lines);
     let ran = run_settings(&queued, alloc, hasher, file, u32::from(links), journal);
     lines.end(rt);
     let status = match ran {
-        Ok(day) => ended(alloc, &day, &mut output, faults),
+        Ok(day) => ended(rt, alloc, &day, path, &mut output, faults),
         Err(fault) => tell(fault, faults),
     };
     ExitCode::from(status)
@@ -231,14 +238,27 @@ where
     }
 }
 
-/// Ends a day: writes its audit. The status is 1 too where its journal's file failed.
-fn ended<W: Write, F: Write>(alloc: Global, day: &Day, output: &mut W, faults: &mut F) -> u8 {
-    let status = audit_day(alloc, day, output, faults);
-    if !day.is_journal_lost() {
-        return status;
+/// Ends a day: writes its audit, and looks whether its journal has it, where there is one. The status is 0 where all
+/// orders agree and it has.
+fn ended<R: Files<File = File>, W: Write, F: Write>(
+    rt: &R,
+    alloc: Global,
+    day: &Day,
+    journal: Option<&str>,
+    output: &mut W,
+    faults: &mut F,
+) -> u8 {
+    let Some(path) = journal else {
+        return audit_day(alloc, day, output, faults);
+    };
+    match fs::read(rt, path) {
+        Ok(file) => end_day(alloc, day, file.as_slice(), output, faults),
+        Err(_) => {
+            let audited = audit_day(alloc, day, output, faults);
+            let _ = writeln!(faults, "gateway: cannot read {path}");
+            audited.max(1)
+        }
     }
-    let _ = writeln!(faults, "gateway: journal: write failed");
-    status.max(1)
 }
 
 /// Shows a gateway on loopback.

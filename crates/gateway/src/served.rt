@@ -8,6 +8,7 @@ use gateway_serve::{
     serve_day, tell_end, tell_open_orders,
 };
 use std::alloc::Global;
+use std::fs::{File, Files};
 use std::hash::RandomState;
 use std::io::{self, BufWriter, Write};
 use std::net::{Net, TcpListener, TcpStream};
@@ -20,11 +21,13 @@ use std::time::Clock;
 /// A gateway that is to be served until it is told to end: its settings, its listeners, and where its day's journal
 /// goes.
 #[derive(Drop)]
-pub(crate) struct AskedServe {
+pub(crate) struct AskedServe<'a> {
     file: SettingsFile,
     operator: OperatorSettings,
     bound: Bound,
     journal: Option<DayJournal>,
+    /// Where the journal is.
+    path: Option<&'a str>,
 }
 
 /// What a settings file says, of the gateway and of its operator, or the status where it is refused.
@@ -53,18 +56,18 @@ fn refused_key(rt: &HostRuntime, key: &str) -> ExitCode {
 
 /// What `serve` asks for, or the status where it is refused: of settings, of a journal that can't be made new, or of an
 /// address that can't be listened at. Nothing is connected before all of it is there.
-pub(crate) fn asked_serve(
+pub(crate) fn asked_serve<'a>(
     rt: &HostRuntime,
     settings: &str,
-    journal: Option<&str>,
-) -> Result<AskedServe, ExitCode> {
+    path: Option<&'a str>,
+) -> Result<AskedServe<'a>, ExitCode> {
     let (file, operator) = all_settings_at(rt, settings)?;
     let bound = match bind_all(rt, rt.alloc(), &file.listens, &operator.control) {
         Ok(Some(bound)) => bound,
         Ok(None) => return Err(ExitCode::from(2)),
         Err(_) => return Err(out_of_memory(rt)),
     };
-    let journal = match journal {
+    let journal = match path {
         Some(path) => Some(journal_at(rt, path)?),
         None => None,
     };
@@ -73,6 +76,7 @@ pub(crate) fn asked_serve(
         operator,
         bound,
         journal,
+        path,
     })
 }
 
@@ -80,7 +84,7 @@ pub(crate) fn asked_serve(
 pub(crate) fn serve_until_told<R, F: Write>(
     rt: &R,
     alloc: Global,
-    asked: AskedServe,
+    asked: AskedServe<'_>,
     faults: &mut F,
 ) -> ExitCode
 where
@@ -90,6 +94,7 @@ where
         + Clock
         + Net<Listener = TcpListener, Stream = TcpStream>
         + RandomSource
+        + Files<File = File>
         + Print
         + Eprint
         + Copy
@@ -109,6 +114,7 @@ where
         operator,
         bound,
         journal,
+        path,
     } = asked;
     let lines = match lines_of(rt, alloc) {
         Ok(lines) => lines,
@@ -121,7 +127,7 @@ where
     lines.end(rt);
     let status = match ran {
         Ok(day) => {
-            let status = ended(alloc, &day, &mut output, faults);
+            let status = ended(rt, alloc, &day, path, &mut output, faults);
             tell_open_orders(alloc, &day, faults);
             status
         }

@@ -20,7 +20,7 @@ mod telling_gate;
 
 pub use audit_lines::{OrderPair, ReadingFault, Settings, audit};
 pub use by_settings::run_settings;
-pub use day::{Day, audit_day, end_day, keep_day, tell};
+pub use day::{Day, audit_day, end_day, has_day, tell};
 pub use ends::{LinkRules, RunPlan};
 pub use fault::RunFault;
 pub use gate_events::PortNumber;

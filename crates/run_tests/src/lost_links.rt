@@ -229,7 +229,11 @@ where
         let second = scope.spawn(move || serve_twice(rt, alloc, second, u32::MAX, is_past));
         let one = scope.spawn(move || come_again(rt, alloc, one));
         let two = scope.spawn(move || go_and_come(rt, alloc, two));
-        let status = write_day(alloc, run_settings(rt, alloc, hasher, file, 2), written);
+        let status = write_day(
+            alloc,
+            run_settings(rt, alloc, hasher, file, 2, None),
+            written,
+        );
         is_past.store(true, Ordering::SeqCst);
         let markets = ended(rt, first).and(ended(rt, second));
         (status, markets.and(ended(rt, one)).and(ended(rt, two)))
@@ -244,7 +248,10 @@ fn write_day(alloc: Global, ran: Result<Day, RunFault>, written: &mut Written) -
         faults,
     } = written;
     match ran {
-        Ok(day) => end_day(alloc, &day, journal, output, faults),
+        Ok(day) => match journal_file::write_day(day.history(), journal) {
+            Ok(()) => end_day(alloc, &day, journal.as_slice(), output, faults),
+            Err(_) => 1,
+        },
         Err(fault) => tell(fault, faults),
     }
 }
