@@ -59,10 +59,11 @@ The settings say where each client is listened for, and where each port of the m
 
 It ends when each client has connected and gone so often, and then prints the audit of its day, as gateway audit
 does. A port is connected again a second after its link is lost. Each link that comes and goes is told on standard
-error. With --journal FILE the day is written to a new file at its end, for gateway audit --journal. The status is 0
-where all orders agree, 1 where one doesn't, where memory runs out, a thread can't be had or the journal can't be
-written, 2 for settings that are refused, which the first key that is missing or wrong names, or a journal that is there
-already.";
+error. With --journal FILE each step is in that file, synced, before anybody is told of it: a gateway that was killed
+goes on with its day when it is started again with the same file, and gateway audit --journal reads it once it is over.
+The status is 0 where all orders agree, 1 where one doesn't, where memory runs out, a thread can't be had or the journal
+can't be written, 2 for settings that are refused, which the first key that is missing or wrong names, or a journal that
+is in use, over or damaged.";
 
 /// Of `gateway serve`.
 pub(crate) const SERVE: &str = "\
@@ -83,7 +84,7 @@ Each address is listened at before a port is connected. At the end no further li
 awaited for a while, the link of each client and then of each port is closed once what lay there for it is written, and
 the audit of the day is printed. Orders that are open at the market, or that it hasn't answered, are named on standard
 error. The status is 0 where all orders agree, 1 as gateway run has it, 2 for settings that are refused, an address that
-can't be listened at, or a journal that is there already: then nothing was connected.";
+can't be listened at, or a journal that is in use, over or damaged: then nothing was connected.";
 
 /// Of `gateway end`.
 pub(crate) const END: &str = "\
