@@ -1,5 +1,7 @@
 //! A desk that threads share.
 
+ghost use Rattle.std.specs.Prelude.{◌≡◌};
+
 use crate::desk_value::{Closed, Desk};
 use crate::told_outlets::{ToldOutlets, WriteTold};
 use desk_ends::{DeskName, Finished};
@@ -419,7 +421,9 @@ fn rounds<K: DeskName, S: BuildHasher + Drop>(
 fn end_journal<K: DeskName, S: BuildHasher + Drop>(
     desk: &mut Desk<K, S>,
     alloc: Global,
-) -> Result<Option<LogFault>, AllocError> {
+) -> Result<Option<LogFault>, AllocError>
+    ensures { desk.new.recorded ≡ desk.old.recorded }
+{
     let kept = match desk.keep(alloc) {
         Ok(()) => desk.end_journal(),
         Err(fault) => Err(fault),
