@@ -8,6 +8,7 @@ use Rattle.std.proofs.Crossing.{crosses}
 use Rattle.std.specs.declared.hash.BuildHasher as BuildHasher
 use Rattle.std.specs.declared.hash.Hasher as Hasher
 use Rattle.desk_gates.proofs.desk.Sent.{shared_sync}
+use Rattle.status_board.proofs.Sent.{board_sync}
 use Rattle.desk_gates.specs.desk.declared.DeskName as DeskName
 use Rattle.desk_gates.specs.contracts.bell.BellClock as BellClock
 use Rattle.gateway_run.specs.contracts.counted.CountedLinks as CountedLinks
@@ -65,12 +66,18 @@ module _ (a : NamedLft) (K R : RattleType) (k : DeskName.Ghosts K.Denot) (r : Is
   watch_send = declared_send (Watch.the_type a K R k) (
     search (r, sendable),
     (
-      search (shared_sync, sendable) depth 40,
+      search (sendable, crosses) depth 40,
       (
-        search (sendable, crosses) depth 40,
+        search (shared_sync, sendable) depth 40,
         (
           search (sendable, crosses) depth 40,
-          (search sendable, (search (memory_watch_send a R r, sendable) depth 40, tt)),
+          (
+            search (sendable, crosses) depth 40,
+            (
+              search (board_sync, sendable) depth 40,
+              (search sendable, (search (memory_watch_send a R r, sendable) depth 40, (search sendable, tt))),
+            ),
+          ),
         ),
       ),
     ),

@@ -5,6 +5,8 @@ use crate::memory_watch::MemoryWatch;
 use desk_gates::{DeskName, Shared};
 use gate_serving::Clock;
 use link_sockets::SystemClock;
+use status_board::StatusBoard;
+use std::alloc::Global;
 use std::hash::RandomState;
 use std::sync::Wait;
 use std::sync::atomic::{AtomicBool, Ordering};
@@ -17,14 +19,18 @@ const PATIENCE: u32 = 100;
 /// So many milliseconds, and as many looks at most, lie between two rounds of ticks.
 const BETWEEN_TICKS: u32 = 100;
 
+/// So many milliseconds lie between two statuses on the board.
+const BETWEEN_STATUSES: u64 = 1_000;
+
 /// How long a worker pauses where nothing moves, and for how long what may wait is left.
 fn pause() -> Duration {
     Duration::from_millis(1)
 }
 
 /// The system's time, which never goes back, and pauses of a millisecond. That of the worker that has time pass pauses
-/// between two rounds of ticks, and meanwhile has what may wait written, each millisecond. It also watches the clients,
-/// and ends the day where they are left alone: where a thread could not be had, say.
+/// between two rounds of ticks, and meanwhile has what may wait written, each millisecond. Once a second it puts how all
+/// stand onto the board. It also watches the clients, and ends the day where they are left alone: where a thread could
+/// not be had, say.
 #[derive(Drop)]
 pub(crate) struct RunClock<'a, K: DeskName, R> {
     clock: SystemClock<'a, R>,
@@ -41,22 +47,27 @@ impl<'a, K: DeskName, R: Wait + time::Clock + Eprint> RunClock<'a, K, R> {
     }
 
     /// Of the worker that has time pass for this desk: once these clients have been left alone for a hundred pauses
-    /// `is_over` is set. Takes no memory.
+    /// `is_over` is set, and how all stand goes onto this board. Takes no memory.
     pub(crate) fn watching(
         rt: &'a R,
+        alloc: Global,
         shared: &'a Shared<K, RandomState>,
         counts: &'a ClientCounts,
         is_over: &'a AtomicBool,
+        board: &'a StatusBoard,
     ) -> RunClock<'a, K, R> {
         RunClock {
             clock: SystemClock::new(rt, pause()),
             watch: Some(Watch {
                 rt,
+                alloc,
                 shared,
                 counts,
                 is_over,
+                board,
                 idle: 0,
                 memory: MemoryWatch::new(rt),
+                next_status: 0,
             }),
         }
     }
@@ -79,12 +90,16 @@ impl<'a, K: DeskName, R: Wait + time::Clock + Eprint> Clock for RunClock<'a, K, 
 #[derive(Drop)]
 struct Watch<'a, K: DeskName, R> {
     rt: &'a R,
+    alloc: Global,
     shared: &'a Shared<K, RandomState>,
     counts: &'a ClientCounts,
     is_over: &'a AtomicBool,
+    board: &'a StatusBoard,
     /// The pauses since one of the clients waited for a link or had one.
     idle: u32,
     memory: MemoryWatch<'a, R>,
+    /// When the next status goes onto the board, by the clock.
+    next_status: u64,
 }
 
 impl<'a, K: DeskName, R: Wait + time::Clock + Eprint> Watch<'a, K, R> {
@@ -94,6 +109,7 @@ impl<'a, K: DeskName, R: Wait + time::Clock + Eprint> Watch<'a, K, R> {
         for _ in 0..BETWEEN_TICKS {
             clock.pause();
             self.shared.ring_waiting(self.rt);
+            self.show(clock.now_ms());
             if clock.now_ms() >= end {
                 break;
             }
@@ -101,6 +117,21 @@ impl<'a, K: DeskName, R: Wait + time::Clock + Eprint> Watch<'a, K, R> {
         self.memory
             .look(self.shared.is_memory_refused(), clock.now_ms());
         self.look();
+    }
+
+    /// Puts how all stand onto the board, where a second has passed since it last was. While somebody reads the board it
+    /// is tried again with the next pause; where memory is refused, a second later.
+    fn show(&mut self, now: u64) {
+        if now < self.next_status {
+            return;
+        }
+        let is_done = match self.shared.status(self.rt, self.alloc) {
+            Ok(status) => self.board.put(status, now),
+            Err(_) => true,
+        };
+        if is_done {
+            self.next_status = now.saturating_add(BETWEEN_STATUSES);
+        }
     }
 
     /// Ends the day where the clients have been left alone for so long.

@@ -16,6 +16,7 @@ use desk_gates::{
 };
 use gate_events::{Recipient, Source};
 use gate_serving::{Line, LinkFault, PenWorker, Ticks, Worker};
+use status_board::StatusBoard;
 use std::alloc::{AllocError, Global};
 use std::hash::RandomState;
 use std::sync::Wait;
@@ -92,8 +93,8 @@ where
     }
 }
 
-/// Ticks for so many clients and ports through the clock's inlet, where they are due, until `is_over` is set. None
-/// through another's.
+/// Ticks for so many clients and ports through the clock's inlet, where they are due, until `is_over` is set, and how
+/// all stand onto this board. None through another's.
 pub(crate) fn ticks_of<'p, 'a, W: Prompt + Drop, G: OutletEnd + Drop, K, R>(
     rt: &'a R,
     alloc: Global,
@@ -101,6 +102,7 @@ pub(crate) fn ticks_of<'p, 'a, W: Prompt + Drop, G: OutletEnd + Drop, K, R>(
     count: Count,
     counts: &'a ClientCounts,
     is_over: &'a AtomicBool,
+    board: &'a StatusBoard,
     inlet: Inlet<K>,
     pens: &'p [OutletPen<W, G>],
 ) -> Option<RunTicks<'p, 'a, W, G, K, R>>
@@ -119,7 +121,7 @@ where
             ports,
             is_over,
             gate,
-            clock: RunClock::watching(rt, shared, counts, is_over),
+            clock: RunClock::watching(rt, alloc, shared, counts, is_over, board),
         });
     }
     None

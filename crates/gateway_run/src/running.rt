@@ -15,6 +15,7 @@ use desk_gates::{
     Closed, DeskName, Finished, Inlet, OutletEnd, OutletPen, Parts, Prompt, Shared, open_desk,
 };
 use gate_serving::{Closer, Opener, serve};
+use status_board::StatusBoard;
 use std::alloc::{AllocError, Global};
 use std::hash::RandomState;
 use std::io::Read;
@@ -55,12 +56,34 @@ where
     A::Closer: Closer + Send + Drop,
     C: Opener<Reader = A::Reader, Writer = A::Writer, Closer = A::Closer> + Send + Drop,
 {
+    let board = StatusBoard::new();
+    run_shown(rt, alloc, hasher, settings, plan, is_over, &board)
+}
+
+/// The same, with how all stand on this board, once a second, for whoever looks at it.
+pub fn run_shown<R, A, C>(
+    rt: &R,
+    alloc: Global,
+    hasher: RandomState,
+    settings: Settings,
+    plan: RunPlan<A, C>,
+    is_over: &AtomicBool,
+    board: &StatusBoard,
+) -> Result<Day, RunFault>
+where
+    R: Threads + Wait + Sync + Clock + Eprint,
+    A: Opener + Send + Drop,
+    A::Reader: Read + Send + Drop,
+    A::Writer: Prompt + Send + Drop,
+    A::Closer: Closer + Send + Drop,
+    C: Opener<Reader = A::Reader, Writer = A::Writer, Closer = A::Closer> + Send + Drop,
+{
     let count = Count {
         clients: settings.clients().len() as u16,
         ports: settings.ports().len() as u16,
     };
     let parts = Parts::with_hasher(alloc, hasher, settings)?;
-    run_desk::<Brand, R, A, C>(rt, alloc, parts, count, plan, is_over)
+    run_desk::<Brand, R, A, C>(rt, alloc, parts, count, plan, is_over, board)
 }
 
 /// Opens the desk of these parts, serves it and closes it.
@@ -71,6 +94,7 @@ fn run_desk<K, R, A, C>(
     count: Count,
     plan: RunPlan<A, C>,
     is_over: &AtomicBool,
+    board: &StatusBoard,
 ) -> Result<Day, RunFault>
 where
     K: DeskName + Send + Sync,
@@ -96,6 +120,7 @@ where
         pens.as_slice(),
         plan,
         is_over,
+        board,
     )?;
     left.end_outlets(pens)?;
     let closed = close_desk(rt, alloc, shared, left.finished)?;
@@ -140,6 +165,7 @@ fn serve_desk<'p, 'a, K, R, A, C, G>(
     pens: &'p [OutletPen<A::Writer, G>],
     plan: RunPlan<A, C>,
     is_over: &'a AtomicBool,
+    board: &'a StatusBoard,
 ) -> Result<Left<K>, RunFault>
 where
     K: DeskName + Send + Sync,
@@ -165,7 +191,9 @@ where
     let clients = counted(alloc, clients, counts, is_over)?;
     let ends = ends_of(rt, alloc, shared, inlets, pens, clients, ports, rules)?;
     let Ends { lines, .. } = ends;
-    let ticks = ticks_of(rt, alloc, shared, count, counts, is_over, clock, pens);
+    let ticks = ticks_of(
+        rt, alloc, shared, count, counts, is_over, board, clock, pens,
+    );
     match serve(rt, alloc, lines, ticks) {
         Ok((lines, ticks)) => {
             left.end_lines(lines)?;

@@ -5,7 +5,6 @@ ghost use Rattle.std.specs.Prelude.{◌<◌, ◌^◌, IfSome};
 use crate::day_flags::DayFlags;
 use gateway_control::DayControl;
 use operator_settings::{DaySettings, next_at};
-use stderr_queue::LineQueue;
 use std::alloc::Global;
 use std::sync::{Arc, Wait};
 use std::thread;
@@ -48,11 +47,8 @@ fn watch<R: Clock + Wait>(
     flags: &DayFlags,
     lines: &LineQueue,
 ) {
-    let DaySettings { ends, linger, .. } = settings;
-    let end = match (ends, now(rt)) {
-        (Some(time), Some(now)) => Some(next_at(now, time)),
-        _ => None,
-    };
+    let end = end_of(rt, settings);
+    let DaySettings { linger, .. } = settings;
     if !waits_for_the_end(rt, end, control) {
         return;
     }
@@ -65,6 +61,17 @@ fn watch<R: Clock + Wait>(
         thread::sleep(rt, look());
     }
     flags.end_clients();
+    control.end_links();
+}
+
+/// The first moment behind now at which the day ends by its time, in milliseconds since 1970; `None` where it ends when
+/// it is told to.
+pub(crate) fn end_of<R: Clock>(rt: &R, settings: DaySettings) -> Option<u64> {
+    let DaySettings { ends, .. } = settings;
+    match (ends, now(rt)) {
+        (Some(time), Some(now)) => Some(next_at(now, time)),
+        _ => None,
+    }
 }
 
 /// Waits until the day is to end, by its time or since it is told to; `false` where it is over before.
@@ -90,7 +97,7 @@ fn is_reached<R: Clock>(rt: &R, end: Option<u64>) -> bool {
 }
 
 /// Now, in milliseconds since 1970; `None` where the system can't say, or is 285 million years from then.
-fn now<R: Clock>(rt: &R) -> Option<u64>
+pub(crate) fn now<R: Clock>(rt: &R) -> Option<u64>
     ensures { IfSome result (λ now. now < 2 ^ 63) }
 {
     let since = rt.since_1970().ok()?;

@@ -1,4 +1,4 @@
-use Rattle.gateway_run.proofs.running.run.Given as goal
+use Rattle.gateway_run.proofs.running.run_shown.Given as goal
 
 -- the rings of the parts
 abbrev pub ghosts-run_desk : goal.ghosts-run_desk

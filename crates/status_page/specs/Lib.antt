@@ -1,0 +1,4 @@
+mod Examples
+pub mod Html
+pub mod Metrics
+pub mod Numbers
