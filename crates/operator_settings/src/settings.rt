@@ -1,7 +1,7 @@
 //! What the tables of an operator say.
 
 ghost use Rattle.std.specs.Option.{ForSome};
-ghost use Rattle.std.specs.Prelude.{◌<◌, ◌≤◌};
+ghost use Rattle.std.specs.Prelude.{◌≡◌, ◌<◌, ◌≤◌};
 
 /// When a day ends.
 #[derive(Clone, Copy, Debug)]
@@ -16,7 +16,10 @@ pub struct DaySettings {
 
 impl DaySettings {
     /// Of a day that ends where it is told to, ten seconds after. Takes no memory.
-    pub(crate) fn usual() -> DaySettings {
+    pub(crate) fn usual() -> DaySettings
+        ensures ends { result.ends ≡ None }
+        ensures linger { result.linger ≡ 10 }
+    {
         DaySettings {
             ends: None,
             linger: 10,
