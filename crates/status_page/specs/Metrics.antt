@@ -1,7 +1,8 @@
 -- The metrics of a day.
 --
 -- Source: Prometheus text format 0.0.4.
-use Rattle.std.specs.Prelude.{ℕ, ◌-◌, ◌/◌, ◌==◌, List, [], ◌∷◌, ◌++◌, map, codes, decimal, Option, Some, None, if◌then◌else◌}
+use Rattle.std.specs.Prelude.{ℕ, ◌-◌, ◌/◌, ◌==◌, List, [], ◌∷◌, ◌++◌, map, drop, codes, decimal, Option, Some, None}
+use Rattle.std.specs.Prelude.{if◌then◌else◌}
 use Rattle.std.specs.List.{flat_map}
 use Rattle.status_board.specs.Rows.{ClientRow, PortRow}
 use Rattle.status_board.specs.declared.board.Shown.{Shown}
@@ -10,6 +11,7 @@ use Rattle.status_page.specs.declared.client_metric.ClientMetric.{ClientMetric}
 use Rattle.status_page.specs.declared.client_metric.ClientMetric.TheVariants as client
 use Rattle.status_page.specs.declared.port_metric.PortMetric.{PortMetric}
 use Rattle.status_page.specs.declared.port_metric.PortMetric.TheVariants as port
+use Rattle.status_page.specs.Page.{first_name}
 use Rattle.status_page.specs.Numbers.{client_metric_help, client_metric_name, client_number}
 use Rattle.status_page.specs.Numbers.{port_metric_help, port_metric_name, port_number}
 
@@ -19,10 +21,13 @@ use Rattle.status_page.specs.Numbers.{port_metric_help, port_metric_name, port_n
 abbrev pub counted : List ℕ → ℕ → List ℕ
 counted word number = word ++ decimal number ++ 10 ∷ []
 
+-- a line that says something of a metric
+unfoldable pub comment : List ℕ → List ℕ → List ℕ → List ℕ
+comment word metric said = word ++ metric ++ 32 ∷ said ++ 10 ∷ []
+
 -- what a metric is and says
 abbrev pub head : List ℕ → List ℕ → List ℕ → List ℕ
-head metric kind help =
-    codes "# HELP " ++ metric ++ 32 ∷ [] ++ help ++ 10 ∷ codes "# TYPE " ++ metric ++ 32 ∷ [] ++ kind ++ 10 ∷ []
+head metric kind help = comment (codes "# HELP ") metric help ++ comment (codes "# TYPE ") metric kind
 
 -- in a label's value a backslash, a quote and the end of a line stand behind a backslash
 abbrev pub quoted_byte : ℕ → List ℕ
@@ -44,51 +49,52 @@ line metric label name value =
 
 -- a line for each client, by its name
 abbrev pub client_lines : ClientMetric → List (List ℕ) → List ClientRow → List ℕ
-client_lines metric [] rows = []
-client_lines metric (name ∷ names) [] = []
-client_lines metric (name ∷ names) (row ∷ rows) =
-    line (client_metric_name metric) (codes "client") name (client_number metric row) ++ client_lines metric names rows
+client_lines metric names [] = []
+client_lines metric names (row ∷ rows) =
+    line (client_metric_name metric) (codes "client") (first_name names) (client_number metric row)
+    ++ client_lines metric (drop 1 names) rows
 
-abbrev pub client_metric : ClientMetric → List (List ℕ) → List ClientRow → List ℕ
+unfoldable pub client_metric : ClientMetric → List (List ℕ) → List ClientRow → List ℕ
 client_metric metric names rows =
     head (client_metric_name metric) (codes "gauge") (client_metric_help metric) ++ client_lines metric names rows
 
-abbrev pub clients : List (List ℕ) → List ClientRow → List ℕ
+unfoldable pub clients : List (List ℕ) → List ClientRow → List ℕ
 clients names rows =
-    client_metric client.Up names rows ++ client_metric client.NextIn names rows ++ client_metric client.NextOut names rows
+    client_metric client.Up names rows ++ client_metric client.OpenOrders names rows
+    ++ client_metric client.NextIn names rows ++ client_metric client.NextOut names rows
 
 -- a line for each port, by its address
 abbrev pub port_lines : PortMetric → List (List ℕ) → List PortRow → List ℕ
-port_lines metric [] rows = []
-port_lines metric (name ∷ names) [] = []
-port_lines metric (name ∷ names) (row ∷ rows) =
-    line (port_metric_name metric) (codes "port") name (port_number metric row) ++ port_lines metric names rows
+port_lines metric addresses [] = []
+port_lines metric addresses (row ∷ rows) =
+    line (port_metric_name metric) (codes "port") (first_name addresses) (port_number metric row)
+    ++ port_lines metric (drop 1 addresses) rows
 
-abbrev pub port_metric : PortMetric → List (List ℕ) → List PortRow → List ℕ
+unfoldable pub port_metric : PortMetric → List (List ℕ) → List PortRow → List ℕ
 port_metric metric names rows =
     head (port_metric_name metric) (codes "gauge") (port_metric_help metric) ++ port_lines metric names rows
 
-abbrev pub ports : List (List ℕ) → List PortRow → List ℕ
+unfoldable pub ports : List (List ℕ) → List PortRow → List ℕ
 ports names rows =
     port_metric port.Up names rows ++ port_metric port.Faulted names rows ++ port_metric port.Next names rows
 
 -- ---- the whole
 
 -- when the day began
-abbrev pub start : ℕ → List ℕ
+unfoldable pub start : ℕ → List ℕ
 start begun =
     head (codes "gateway_start_time_seconds") (codes "gauge") (codes "When the day began, in seconds since 1970.")
     ++ counted (codes "gateway_start_time_seconds ") (begun / 1000)
 
 -- how old the board is
-abbrev pub age_of : ℕ → List ℕ
+unfoldable pub age_of : ℕ → List ℕ
 age_of age =
     head (codes "gateway_board_age_seconds") (codes "gauge")
     (codes "How old what is said here of clients and ports is.")
     ++ counted (codes "gateway_board_age_seconds ") (age / 1000)
 
 -- how many events were stepped
-abbrev pub events_of : ℕ → List ℕ
+unfoldable pub events_of : ℕ → List ℕ
 events_of events =
     head (codes "gateway_events_total") (codes "counter") (codes "Events that were stepped since the day began.")
     ++ counted (codes "gateway_events_total ") events

@@ -11,6 +11,7 @@ pub(crate) enum ClientMetric {
     Up,
     NextIn,
     NextOut,
+    OpenOrders,
 }
 
 impl ClientMetric {
@@ -22,6 +23,7 @@ impl ClientMetric {
             ClientMetric::Up => b"gateway_client_up",
             ClientMetric::NextIn => b"gateway_client_next_in",
             ClientMetric::NextOut => b"gateway_client_next_out",
+            ClientMetric::OpenOrders => b"gateway_open_orders",
         }
     }
 
@@ -33,6 +35,8 @@ impl ClientMetric {
             ClientMetric::Up => b"1 where a client is logged on.",
             ClientMetric::NextIn => b"The number that is expected of a client's next frame.",
             ClientMetric::NextOut => b"The number of the next frame that a client is sent.",
+            ClientMetric::OpenOrders =>
+                b"Orders of a client that aren't closed, by its own reports.",
         }
     }
 
@@ -44,6 +48,7 @@ impl ClientMetric {
             ClientMetric::Up => one_where(row.is_logged_on),
             ClientMetric::NextIn => row.next_in,
             ClientMetric::NextOut => row.next_out,
+            ClientMetric::OpenOrders => row.open_orders as u64,
         }
     }
 }

@@ -6,13 +6,18 @@
 #![tactic(auto)]
 
 mod client_metric;
+mod clients;
 mod day;
 mod escaping;
 mod json;
+mod json_rows;
+mod json_values;
 mod metrics;
 mod page;
+mod pieces;
 mod port_metric;
 mod port_words;
+mod ports;
 
 pub use day::DayNames;
 pub use escaping::push_escaped;

@@ -4,7 +4,7 @@ ghost use Rattle.std.specs.Prelude.{◌≡◌, ◌++◌, IfOk, OnOk, map};
 ghost use Rattle.status_page.specs.Metrics as spec;
 
 use crate::client_metric::ClientMetric;
-use crate::day::DayNames;
+use crate::day::{DayNames, first_name, other_names};
 use crate::port_metric::PortMetric;
 use itoa::Buffer;
 use status_board::{ClientRow, PortRow, Shown};
@@ -30,6 +30,7 @@ pub fn metrics_of(
 }
 
 /// Adds when the day began.
+#[tactic(auto, unfolding(crate::specs::Metrics::start))]
 fn push_start(text: &mut Vec<u8>, begun: u64) -> Result<(), AllocError>
     ensures { OnOk result (text.new.items ≡ text.old.items ++ spec.start begun) }
 {
@@ -39,7 +40,8 @@ fn push_start(text: &mut Vec<u8>, begun: u64) -> Result<(), AllocError>
         b"gauge",
         b"When the day began, in seconds since 1970.",
     )?;
-    push_number(text, b"gateway_start_time_seconds ", begun / 1_000)
+    push_number(text, b"gateway_start_time_seconds ", begun / 1_000)?;
+    Ok(())
 }
 
 /// Adds how all stood.
@@ -54,10 +56,12 @@ fn push_shown(
     push_age(text, now.saturating_sub(shown.at))?;
     push_events(text, shown.status.events())?;
     push_clients(text, names.clients.as_slice(), shown.status.clients())?;
-    push_ports(text, names.ports.as_slice(), shown.status.ports())
+    push_ports(text, names.ports.as_slice(), shown.status.ports())?;
+    Ok(())
 }
 
 /// Adds how old the board is, of milliseconds.
+#[tactic(auto, unfolding(crate::specs::Metrics::age_of))]
 fn push_age(text: &mut Vec<u8>, age: u64) -> Result<(), AllocError>
     ensures { OnOk result (text.new.items ≡ text.old.items ++ spec.age_of age) }
 {
@@ -67,10 +71,12 @@ fn push_age(text: &mut Vec<u8>, age: u64) -> Result<(), AllocError>
         b"gauge",
         b"How old what is said here of clients and ports is.",
     )?;
-    push_number(text, b"gateway_board_age_seconds ", age / 1_000)
+    push_number(text, b"gateway_board_age_seconds ", age / 1_000)?;
+    Ok(())
 }
 
 /// Adds how many events were stepped.
+#[tactic(auto, unfolding(crate::specs::Metrics::events_of))]
 fn push_events(text: &mut Vec<u8>, events: u64) -> Result<(), AllocError>
     ensures { OnOk result (text.new.items ≡ text.old.items ++ spec.events_of events) }
 {
@@ -80,19 +86,24 @@ fn push_events(text: &mut Vec<u8>, events: u64) -> Result<(), AllocError>
         b"counter",
         b"Events that were stepped since the day began.",
     )?;
-    push_number(text, b"gateway_events_total ", events)
+    push_number(text, b"gateway_events_total ", events)?;
+    Ok(())
 }
 
 /// Adds the metrics of clients.
+#[tactic(auto, unfolding(crate::specs::Metrics::clients))]
 fn push_clients(text: &mut Vec<u8>, names: &[Vec<u8>], rows: &[ClientRow]) -> Result<(), AllocError>
     ensures { OnOk result (text.new.items ≡ text.old.items ++ spec.clients (map (λ v. v.items) names.now) rows.now) }
 {
     push_client_metric(text, ClientMetric::Up, names, rows)?;
+    push_client_metric(text, ClientMetric::OpenOrders, names, rows)?;
     push_client_metric(text, ClientMetric::NextIn, names, rows)?;
-    push_client_metric(text, ClientMetric::NextOut, names, rows)
+    push_client_metric(text, ClientMetric::NextOut, names, rows)?;
+    Ok(())
 }
 
 /// Adds a metric of clients.
+#[tactic(auto, unfolding(crate::specs::Metrics::client_metric))]
 fn push_client_metric(
     text: &mut Vec<u8>,
     metric: ClientMetric,
@@ -103,7 +114,8 @@ fn push_client_metric(
         ++ spec.client_metric metric (map (λ v. v.items) names.now) rows.now) }
 {
     push_head(text, metric.name(), b"gauge", metric.help())?;
-    push_client_lines(text, metric, names, rows)
+    push_client_lines(text, metric, names, rows)?;
+    Ok(())
 }
 
 /// Adds a line for each client.
@@ -116,31 +128,34 @@ fn push_client_lines(
     ensures { OnOk result (text.new.items ≡ text.old.items
         ++ spec.client_lines metric (map (λ v. v.items) names.now) rows.now) }
 {
-    match (names, rows) {
-        ([name, names @ ..], [row, rows @ ..]) => {
+    match rows {
+        [row, rows @ ..] => {
             push_line(
                 text,
                 metric.name(),
                 b"client",
-                name.as_slice(),
+                first_name(names),
                 metric.of(row),
             )?;
-            push_client_lines(text, metric, names, rows)
+            push_client_lines(text, metric, other_names(names), rows)
         }
-        _ => Ok(()),
+        [] => Ok(()),
     }
 }
 
 /// Adds the metrics of ports.
+#[tactic(auto, unfolding(crate::specs::Metrics::ports))]
 fn push_ports(text: &mut Vec<u8>, names: &[Vec<u8>], rows: &[PortRow]) -> Result<(), AllocError>
     ensures { OnOk result (text.new.items ≡ text.old.items ++ spec.ports (map (λ v. v.items) names.now) rows.now) }
 {
     push_port_metric(text, PortMetric::Up, names, rows)?;
     push_port_metric(text, PortMetric::Faulted, names, rows)?;
-    push_port_metric(text, PortMetric::Next, names, rows)
+    push_port_metric(text, PortMetric::Next, names, rows)?;
+    Ok(())
 }
 
 /// Adds a metric of ports.
+#[tactic(auto, unfolding(crate::specs::Metrics::port_metric))]
 fn push_port_metric(
     text: &mut Vec<u8>,
     metric: PortMetric,
@@ -151,7 +166,8 @@ fn push_port_metric(
         ++ spec.port_metric metric (map (λ v. v.items) names.now) rows.now) }
 {
     push_head(text, metric.name(), b"gauge", metric.help())?;
-    push_port_lines(text, metric, names, rows)
+    push_port_lines(text, metric, names, rows)?;
+    Ok(())
 }
 
 /// Adds a line for each port.
@@ -164,18 +180,18 @@ fn push_port_lines(
     ensures { OnOk result (text.new.items ≡ text.old.items
         ++ spec.port_lines metric (map (λ v. v.items) names.now) rows.now) }
 {
-    match (names, rows) {
-        ([name, names @ ..], [row, rows @ ..]) => {
+    match rows {
+        [row, rows @ ..] => {
             push_line(
                 text,
                 metric.name(),
                 b"port",
-                name.as_slice(),
+                first_name(names),
                 metric.of(row),
             )?;
-            push_port_lines(text, metric, names, rows)
+            push_port_lines(text, metric, other_names(names), rows)
         }
-        _ => Ok(()),
+        [] => Ok(()),
     }
 }
 
@@ -183,14 +199,24 @@ fn push_port_lines(
 fn push_head(text: &mut Vec<u8>, metric: &[u8], kind: &[u8], help: &[u8]) -> Result<(), AllocError>
     ensures { OnOk result (text.new.items ≡ text.old.items ++ spec.head metric.now kind.now help.now) }
 {
-    text.extend_from_slice(b"# HELP ")?;
+    push_comment(text, b"# HELP ", metric, help)?;
+    push_comment(text, b"# TYPE ", metric, kind)
+}
+
+/// Adds a line that says something of a metric.
+#[tactic(auto, unfolding(crate::specs::Metrics::comment))]
+fn push_comment(
+    text: &mut Vec<u8>,
+    word: &[u8],
+    metric: &[u8],
+    said: &[u8],
+) -> Result<(), AllocError>
+    ensures { OnOk result (text.new.items ≡ text.old.items ++ spec.comment word.now metric.now said.now) }
+{
+    text.extend_from_slice(word)?;
     text.extend_from_slice(metric)?;
     text.push(b' ')?;
-    text.extend_from_slice(help)?;
-    text.extend_from_slice(b"\n# TYPE ")?;
-    text.extend_from_slice(metric)?;
-    text.push(b' ')?;
-    text.extend_from_slice(kind)?;
+    text.extend_from_slice(said)?;
     text.push(b'\n')?;
     Ok(())
 }

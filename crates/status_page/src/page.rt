@@ -1,10 +1,14 @@
 //! The page.
 
-use crate::day::{DayNames, age_of, is_late, name_at};
-use crate::escaping::push_escaped;
-use crate::port_words::{reason_of, state_name};
+ghost use Rattle.std.specs.Prelude.{◌≡◌, ◌++◌, ◌/◌, IfOk, OnOk, List, ℕ, map, string_bytes};
+ghost use Rattle.status_page.specs.Page as spec;
+
+use crate::clients::push_clients;
+use crate::day::{DayNames, age_of, is_late};
+use crate::pieces::{push_count, push_told};
+use crate::ports::{push_alarms, push_ports};
 use fix_stamp::stamp;
-use status_board::{ClientRow, PortRow, PortState, Shown};
+use status_board::Shown;
 use std::alloc::{AllocError, Global};
 
 /// What stands before the body. It fetches nothing, and asks for the page anew each five seconds.
@@ -36,207 +40,161 @@ pub fn page_of(
     names: &DayNames,
     shown: &Option<Shown>,
     now: u64,
-) -> Result<String, AllocError> {
-    let mut page = String::new(alloc);
-    page.push_str(HEAD)?;
-    push_top(&mut page, names, shown)?;
-    if is_late(names, shown, now) {
-        push_age_alarm(&mut page, shown, now)?;
-    }
-    if let Some(shown) = shown {
-        push_shown(&mut page, names, shown)?;
-    }
+) -> Result<String, AllocError>
+    ensures { IfOk result (λ page. (before : List ℕ) × (after : List ℕ)
+        × (string_bytes page ≡ before ++ spec.body names.now shown.now now ++ after)) }
+{
+    let mut page = String::from_str(alloc, HEAD)?;
+    push_body(&mut page, names, shown, now)?;
     page.push_str(FOOT)?;
     Ok(page)
 }
 
-/// Whose day it is, and from when to when.
-fn push_top(page: &mut String, names: &DayNames, shown: &Option<Shown>) -> Result<(), AllocError> {
-    page.push_str("<h1>")?;
-    push_escaped(page, names.gateway.as_slice())?;
-    page.push_str("</h1><p>")?;
-    if let Some(shown) = shown {
-        push_moment(page, shown)?;
-    }
-    page.push_str("since ")?;
-    push_escaped(page, &stamp(names.begun))?;
-    push_end(page, names.ends)
-}
-
-/// When all stood as it is shown, and after how many events.
-fn push_moment(page: &mut String, shown: &Shown) -> Result<(), AllocError> {
-    page.push_str("as it stood at ")?;
-    push_escaped(page, &stamp(shown.at))?;
-    let events = shown.status.events();
-    write!(page, " UTC, after {events} events; ")
-}
-
-/// When the day ends.
-fn push_end(page: &mut String, ends: Option<u64>) -> Result<(), AllocError> {
-    match ends {
-        Some(ends) => {
-            page.push_str("; the day ends at ")?;
-            push_escaped(page, &stamp(ends))?;
-        }
-        None => page.push_str("; the day ends when it is told to")?,
-    }
-    page.push_str("</p>\n")
-}
-
-/// That what is shown is old, or that nothing is.
-fn push_age_alarm(page: &mut String, shown: &Option<Shown>, now: u64) -> Result<(), AllocError> {
-    page.push_str("<div class=\"alarm\"><b>")?;
-    match shown {
-        Some(shown) => {
-            let seconds = age_of(shown, now) / 1_000;
-            write!(page, "This is {seconds} s old")?;
-        }
-        None => page.push_str("Nothing is known")?,
-    }
-    page.push_str("</b>: memory is refused, or the gateway hangs.</div>\n")
-}
-
-/// How all stood.
-fn push_shown(page: &mut String, names: &DayNames, shown: &Shown) -> Result<(), AllocError> {
-    push_alarms(page, names.ports.as_slice(), shown.status.ports())?;
-    push_clients(page, names.clients.as_slice(), shown.status.clients())?;
-    push_ports(page, names.ports.as_slice(), shown.status.ports())
-}
-
-/// The ports that somebody has to look at.
-fn push_alarms(
+/// Adds what is said of the day.
+#[tactic(auto, unfolding(crate::specs::Page::body))]
+fn push_body(
     page: &mut String,
-    addresses: &[Vec<u8>],
-    rows: &[PortRow],
-) -> Result<(), AllocError> {
-    for (place, row) in rows.iter().enumerate() {
-        if !row.state.is_up() {
-            push_alarm(page, place, name_at(addresses, place), row.state)?;
-        }
-    }
+    names: &DayNames,
+    shown: &Option<Shown>,
+    now: u64,
+) -> Result<(), AllocError>
+    ensures { OnOk result (string_bytes page.new ≡ string_bytes page.old ++ spec.body names.now shown.now now) }
+{
+    push_top(page, names, shown)?;
+    push_late(page, names, shown, now)?;
+    push_status(page, names, shown)?;
     Ok(())
 }
 
-/// A port that somebody has to look at, by its place from 0.
-fn push_alarm(
-    page: &mut String,
-    place: usize,
-    address: &[u8],
-    state: PortState,
-) -> Result<(), AllocError> {
-    let number = place.saturating_add(1);
-    write!(page, "<div class=\"alarm\"><b>P{number}</b> at ")?;
-    push_escaped(page, address)?;
-    page.push_str(" is <b>")?;
-    page.push_str(state_name(state))?;
-    page.push_str("</b>")?;
-    push_reason(page, ": ", reason_of(state))?;
-    page.push_str("</div>\n")
+/// Adds whose day it is, and from when to when.
+#[tactic(auto, unfolding(crate::specs::Page::top))]
+fn push_top(page: &mut String, names: &DayNames, shown: &Option<Shown>) -> Result<(), AllocError>
+    ensures { OnOk result (string_bytes page.new ≡ string_bytes page.old ++ spec.top names.now shown.now) }
+{
+    push_title(page, names.gateway.as_slice())?;
+    push_moment(page, shown)?;
+    push_span(page, names.begun, names.ends)?;
+    Ok(())
 }
 
-/// A reason behind what leads to it, where there is one.
-fn push_reason(page: &mut String, before: &str, reason: &str) -> Result<(), AllocError> {
-    if reason.is_empty() {
-        return Ok(());
+/// Adds whose day it is.
+#[tactic(auto, unfolding(crate::specs::Page::title))]
+fn push_title(page: &mut String, gateway: &[u8]) -> Result<(), AllocError>
+    ensures { OnOk result (string_bytes page.new ≡ string_bytes page.old ++ spec.title gateway.now) }
+{
+    push_told(page, "<h1>", gateway)?;
+    page.push_str("</h1><p>")?;
+    Ok(())
+}
+
+/// Adds from when to when the day is.
+#[tactic(auto, unfolding(crate::specs::Page::span))]
+fn push_span(page: &mut String, begun: u64, ends: Option<u64>) -> Result<(), AllocError>
+    ensures { OnOk result (string_bytes page.new ≡ string_bytes page.old ++ spec.span begun ends) }
+{
+    push_told(page, "since ", &stamp(begun))?;
+    push_end(page, ends)?;
+    page.push_str("</p>\n")?;
+    Ok(())
+}
+
+/// Adds when all stood as it is shown, and after how many events; nothing where nothing is shown yet.
+fn push_moment(page: &mut String, shown: &Option<Shown>) -> Result<(), AllocError>
+    ensures { OnOk result (string_bytes page.new ≡ string_bytes page.old ++ spec.moment shown.now) }
+{
+    match shown {
+        Some(shown) => push_moment_of(page, shown),
+        None => Ok(()),
     }
-    page.push_str(before)?;
-    push_escaped(page, reason.as_bytes())
 }
 
-/// The table of clients.
-fn push_clients(
+/// Adds the same of a board.
+#[tactic(auto, unfolding(crate::specs::Page::moment_of))]
+fn push_moment_of(page: &mut String, shown: &Shown) -> Result<(), AllocError>
+    ensures { OnOk result (string_bytes page.new ≡ string_bytes page.old ++ spec.moment_of shown.now) }
+{
+    push_told(page, "as it stood at ", &stamp(shown.at))?;
+    push_count(page, " UTC, after ", shown.status.events())?;
+    page.push_str(" events; ")?;
+    Ok(())
+}
+
+/// Adds when the day ends.
+fn push_end(page: &mut String, ends: Option<u64>) -> Result<(), AllocError>
+    ensures { OnOk result (string_bytes page.new ≡ string_bytes page.old ++ spec.end ends) }
+{
+    match ends {
+        Some(ends) => push_told(page, "; the day ends at ", &stamp(ends)),
+        None => page.push_str("; the day ends when it is told to"),
+    }
+}
+
+/// Adds that what is shown is late, where it is.
+fn push_late(
+    page: &mut String,
+    names: &DayNames,
+    shown: &Option<Shown>,
+    now: u64,
+) -> Result<(), AllocError>
+    ensures { OnOk result (string_bytes page.new ≡ string_bytes page.old ++ spec.late names.now shown.now now) }
+{
+    if is_late(names, shown, now) {
+        push_age_alarm(page, shown, now)
+    } else {
+        Ok(())
+    }
+}
+
+/// Adds that what is shown is old, or that nothing is.
+#[tactic(auto, unfolding(crate::specs::Page::age_alarm))]
+fn push_age_alarm(page: &mut String, shown: &Option<Shown>, now: u64) -> Result<(), AllocError>
+    ensures { OnOk result (string_bytes page.new ≡ string_bytes page.old ++ spec.age_alarm shown.now now) }
+{
+    page.push_str("<div class=\"alarm\"><b>")?;
+    push_age(page, shown, now)?;
+    page.push_str("</b>: memory is refused, or the gateway hangs.</div>\n")?;
+    Ok(())
+}
+
+/// Adds how old it is.
+fn push_age(page: &mut String, shown: &Option<Shown>, now: u64) -> Result<(), AllocError>
+    ensures { OnOk result (string_bytes page.new ≡ string_bytes page.old ++ spec.age shown.now now) }
+{
+    match shown {
+        Some(shown) => {
+            push_count(page, "This is ", age_of(shown, now) / 1_000)?;
+            page.push_str(" s old")
+        }
+        None => page.push_str("Nothing is known"),
+    }
+}
+
+/// Adds how all stood; nothing where nothing is shown yet.
+fn push_status(page: &mut String, names: &DayNames, shown: &Option<Shown>) -> Result<(), AllocError>
+    ensures { OnOk result (string_bytes page.new ≡ string_bytes page.old ++ spec.status names.now shown.now) }
+{
+    match shown {
+        Some(shown) => push_board(
+            page,
+            names.clients.as_slice(),
+            names.ports.as_slice(),
+            shown,
+        ),
+        None => Ok(()),
+    }
+}
+
+/// Adds how all stood, by these names and addresses.
+fn push_board(
     page: &mut String,
     names: &[Vec<u8>],
-    rows: &[ClientRow],
-) -> Result<(), AllocError> {
-    page.push_str(
-        "<h2>Clients</h2><div class=\"t\"><table><tr><th>client<th>name<th>session<th class=\"n\">link\
-<th class=\"n\">next in<th class=\"n\">next out</tr>\n",
-    )?;
-    for (place, row) in rows.iter().enumerate() {
-        push_client(page, place, name_at(names, place), row)?;
-    }
-    page.push_str("</table></div>\n")
-}
-
-/// A client, by its place from 0.
-fn push_client(
-    page: &mut String,
-    place: usize,
-    name: &[u8],
-    row: &ClientRow,
-) -> Result<(), AllocError> {
-    let number = place.saturating_add(1);
-    write!(page, "<tr><td><b>C{number}</b><td>")?;
-    push_escaped(page, name)?;
-    page.push_str(session_cell(row))?;
-    push_link(page, row.link)?;
-    let (next_in, next_out) = (row.next_in, row.next_out);
-    writeln!(
-        page,
-        "<td class=\"n\">{next_in}<td class=\"n\">{next_out}</tr>"
-    )
-}
-
-/// How a client's session stands.
-fn session_cell(row: &ClientRow) -> &'static str {
-    if row.is_logged_on {
-        "<td class=\"g\">logged on"
-    } else if row.link.is_some() {
-        "<td class=\"w\">connected"
-    } else {
-        "<td class=\"d\">&ndash;"
-    }
-}
-
-/// The number of a link, where there is one.
-fn push_link(page: &mut String, link: Option<u64>) -> Result<(), AllocError> {
-    match link {
-        Some(number) => write!(page, "<td class=\"n\">{number}"),
-        None => page.push_str("<td class=\"n d\">&ndash;"),
-    }
-}
-
-/// The table of ports.
-fn push_ports(
-    page: &mut String,
     addresses: &[Vec<u8>],
-    rows: &[PortRow],
-) -> Result<(), AllocError> {
-    page.push_str(
-        "<h2>Ports</h2><div class=\"t\"><table><tr><th>port<th>address<th>session<th>reason<th class=\"n\">link\
-<th class=\"n\">next</tr>\n",
-    )?;
-    for (place, row) in rows.iter().enumerate() {
-        push_port(page, place, name_at(addresses, place), row)?;
-    }
-    page.push_str("</table></div>\n")
-}
-
-/// A port, by its place from 0.
-fn push_port(
-    page: &mut String,
-    place: usize,
-    address: &[u8],
-    row: &PortRow,
-) -> Result<(), AllocError> {
-    let number = place.saturating_add(1);
-    write!(page, "<tr><td><b>P{number}</b><td>")?;
-    push_escaped(page, address)?;
-    page.push_str(state_cell(row.state))?;
-    page.push_str(state_name(row.state))?;
-    page.push_str("<td>")?;
-    push_reason(page, "", reason_of(row.state))?;
-    push_link(page, row.link)?;
-    let next = row.next;
-    writeln!(page, "<td class=\"n\">{next}</tr>")
-}
-
-/// The cell of a port's state, by how much it matters.
-fn state_cell(state: PortState) -> &'static str {
-    match state {
-        PortState::Up => "<td class=\"g\">",
-        PortState::Down | PortState::LoggingIn => "<td class=\"w\">",
-        PortState::Ended | PortState::Faulted(_) => "<td class=\"b\">",
-    }
+    shown: &Shown,
+) -> Result<(), AllocError>
+    ensures { OnOk result (string_bytes page.new ≡ string_bytes page.old
+        ++ spec.board (map (λ v. v.items) names.now) (map (λ v. v.items) addresses.now) shown.now) }
+{
+    push_alarms(page, 1, addresses, shown.status.ports())?;
+    push_clients(page, names, shown.status.clients())?;
+    push_ports(page, addresses, shown.status.ports())
 }

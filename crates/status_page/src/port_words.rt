@@ -1,12 +1,15 @@
 //! A port's state, in words.
 
 ghost use Rattle.std.specs.Prelude.{◌≡◌};
-ghost use Rattle.status_page.specs.Numbers as spec;
+ghost use Rattle.status_page.specs.Numbers as numbers;
+ghost use Rattle.status_page.specs.Words as spec;
 
 use status_board::{PortState, fault_name};
 
 /// How a port stands, in words.
-pub(crate) fn state_name(state: PortState) -> &'static str {
+pub(crate) fn state_name(state: PortState) -> &'static str
+    ensures { result.now ≡ spec.state_name state }
+{
     match state {
         PortState::Down => "down",
         PortState::LoggingIn => "logging in",
@@ -17,16 +20,18 @@ pub(crate) fn state_name(state: PortState) -> &'static str {
 }
 
 /// Why it stands so, where that is known; empty where it isn't.
-pub(crate) fn reason_of(state: PortState) -> &'static str {
+pub(crate) fn reason_of(state: PortState) -> &'static str
+    ensures { result.now ≡ spec.reason_of state }
+{
     match state {
         PortState::Faulted(fault) => fault_name(fault),
-        _ => "",
+        PortState::Down | PortState::LoggingIn | PortState::Up | PortState::Ended => "",
     }
 }
 
 /// Whether it is faulted.
 pub(crate) fn is_faulted(state: PortState) -> bool
-    ensures { result ≡ spec.is_faulted state }
+    ensures { result ≡ numbers.is_faulted state }
 {
     matches!(state, PortState::Faulted(_))
 }
