@@ -1,1 +1,4 @@
 pub mod Exported
+pub mod Forms
+pub mod Market
+pub mod Said

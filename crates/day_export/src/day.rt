@@ -37,7 +37,8 @@ fn turn_text(
     batch: &Batch,
 ) -> Result<Vec<u8>, AllocError> {
     let mut text = Vec::new(alloc);
-    for row in &rows_of(alloc, event, batch)? {
+    let rows = rows_of(alloc, event, batch)?;
+    for row in &rows {
         push_row(&mut text, format, row)?;
     }
     Ok(text)

@@ -3,7 +3,7 @@
 use crate::cells::Cell;
 use crate::fields::{cells_of, is_of_orders};
 use crate::market::{cells_of_asked, cells_of_said};
-use gate_events::{Batch, Event, IssuedReport, LinkOut};
+use gate_events::{Batch, Event, LinkOut};
 use std::alloc::{AllocError, Global};
 
 /// Who said something, or was told it.
@@ -36,13 +36,7 @@ pub(crate) fn rows_of(alloc: Global, event: &Event, batch: &Batch) -> Result<Vec
     push_came(alloc, &mut rows, event)?;
     let at = moment_of(event);
     if let Some(client) = batch.client {
-        push_reports(
-            alloc,
-            &mut rows,
-            at,
-            client.number(),
-            batch.reports.as_slice(),
-        )?;
+        push_reports(alloc, &mut rows, at, client.number(), batch)?;
     }
     if let Some(port) = batch.port {
         push_asked(
@@ -111,9 +105,9 @@ fn push_reports(
     rows: &mut Vec<Row>,
     at: u64,
     client: u16,
-    reports: &[IssuedReport],
+    batch: &Batch,
 ) -> Result<(), AllocError> {
-    for report in reports {
+    for report in batch.reports.as_slice() {
         let fields = report.to_fields(alloc)?;
         let cells = cells_of(alloc, &fields)?;
         push_row(rows, at, Who::Client(client), Way::Out, cells)?;

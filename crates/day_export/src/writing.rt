@@ -1,5 +1,9 @@
 //! Rows, as they are written.
 
+ghost use Rattle.std.specs.Prelude.{◌≡◌, ◌++◌, OnOk, map};
+ghost use Rattle.std.specs.List.{flat_map};
+ghost use Rattle.day_export.specs.Forms as spec;
+
 use crate::cells::{Cell, value_of};
 use crate::format::Format;
 use crate::row::{Row, Way, Who};
@@ -8,10 +12,10 @@ use itoa::Buffer;
 use std::alloc::AllocError;
 
 /// The columns behind the moment, who and which way.
-const COLUMNS: [&str; 35] = [
-    "35", "150", "39", "37", "11", "41", "17", "55", "54", "38", "40", "44", "59", "110", "528",
-    "32", "31", "151", "14", "6", "102", "103", "378", "380", "434", "371", "372", "373", "58",
-    "ouch", "token", "previous", "shares", "price", "match",
+const COLUMNS: [&str; 36] = [
+    "35", "34", "150", "39", "37", "11", "41", "17", "55", "54", "38", "40", "44", "59", "110",
+    "528", "32", "31", "151", "14", "6", "102", "103", "378", "380", "434", "371", "372", "373",
+    "58", "ouch", "token", "previous", "shares", "price", "match",
 ];
 
 /// What stands before the first row.
@@ -58,19 +62,40 @@ fn push_values(text: &mut Vec<u8>, row: &Row) -> Result<(), AllocError> {
 /// Adds a value between quotes, in which a quote is two; nothing where it is empty.
 ///
 /// Source: RFC 4180, 2.
-fn push_quoted(text: &mut Vec<u8>, value: &[u8]) -> Result<(), AllocError> {
-    if value.is_empty() {
-        return Ok(());
-    }
-    text.push(b'"')?;
-    for byte in value {
-        if *byte == b'"' {
+fn push_quoted(text: &mut Vec<u8>, value: &[u8]) -> Result<(), AllocError>
+    ensures { OnOk result (text.new.items ≡ text.old.items ++ spec.quoted value.now) }
+{
+    match value {
+        [] => Ok(()),
+        [_, ..] => {
             text.push(b'"')?;
+            push_doubled(text, value)?;
+            text.push(b'"')?;
+            Ok(())
         }
-        text.push(*byte)?;
     }
-    text.push(b'"')?;
+}
+
+/// Adds a value's bytes, with two quotes for each.
+fn push_doubled(text: &mut Vec<u8>, value: &[u8]) -> Result<(), AllocError>
+    ensures { OnOk result (text.new.items ≡ text.old.items ++ flat_map spec.quoted_byte value.now) }
+{
+    for byte in value {
+        push_quoted_byte(text, *byte)?;
+    }
     Ok(())
+}
+
+/// Adds a byte so.
+fn push_quoted_byte(text: &mut Vec<u8>, byte: u8) -> Result<(), AllocError>
+    ensures { OnOk result (text.new.items ≡ text.old.items ++ spec.quoted_byte byte) }
+{
+    if byte == b'"' {
+        text.extend_from_slice(b"\"\"")
+    } else {
+        text.push(byte)?;
+        Ok(())
+    }
 }
 
 /// Adds a row as an object.
@@ -91,26 +116,56 @@ fn push_object(text: &mut Vec<u8>, row: &Row) -> Result<(), AllocError> {
 /// Adds a member behind others.
 fn push_member(text: &mut Vec<u8>, cell: &Cell) -> Result<(), AllocError> {
     text.extend_from_slice(b",\"")?;
-    text.extend_from_slice(cell.name.as_slice())?;
+    text.extend_from_slice(cell.name())?;
     text.extend_from_slice(b"\":\"")?;
-    for byte in &cell.value {
+    push_string(text, cell.value())?;
+    text.push(b'"')?;
+    Ok(())
+}
+
+/// Adds the bytes of a string.
+fn push_string(text: &mut Vec<u8>, value: &[u8]) -> Result<(), AllocError>
+    ensures { OnOk result (text.new.items ≡ text.old.items ++ flat_map spec.string_byte value.now) }
+{
+    for byte in value {
         push_string_byte(text, *byte)?;
     }
-    text.push(b'"')?;
     Ok(())
 }
 
 /// Adds a byte of a string; one that isn't printable ASCII as a dot.
 ///
 /// Source: RFC 8259, 7.
-fn push_string_byte(text: &mut Vec<u8>, byte: u8) -> Result<(), AllocError> {
+fn push_string_byte(text: &mut Vec<u8>, byte: u8) -> Result<(), AllocError>
+    ensures { OnOk result (text.new.items ≡ text.old.items ++ spec.string_byte byte) }
+{
     if byte == b'"' || byte == b'\\' {
         text.push(b'\\')?;
         text.push(byte)?;
-    } else if 32 <= byte && byte <= 126 {
-        text.push(byte)?;
+        Ok(())
     } else {
-        text.push(b'.')?;
+        text.push(shown_byte(byte))?;
+        Ok(())
+    }
+}
+
+/// A byte that is printable ASCII, and a dot for any other: no value ends a line.
+fn shown_byte(byte: u8) -> u8
+    ensures { result ≡ spec.shown_byte byte }
+{
+    if 32 <= byte && byte <= 126 {
+        byte
+    } else {
+        b'.'
+    }
+}
+
+/// Adds a value's bytes, and a dot for each that isn't printable ASCII.
+fn push_shown(text: &mut Vec<u8>, value: &[u8]) -> Result<(), AllocError>
+    ensures { OnOk result (text.new.items ≡ text.old.items ++ map spec.shown_byte value.now) }
+{
+    for byte in value {
+        text.push(shown_byte(*byte))?;
     }
     Ok(())
 }
@@ -125,9 +180,9 @@ fn push_message(text: &mut Vec<u8>, row: &Row) -> Result<(), AllocError> {
         if place != 0 {
             text.push(b'|')?;
         }
-        text.extend_from_slice(cell.name.as_slice())?;
+        text.extend_from_slice(cell.name())?;
         text.push(b'=')?;
-        text.extend_from_slice(cell.value.as_slice())?;
+        push_shown(text, cell.value())?;
     }
     text.push(b'\n')?;
     Ok(())
