@@ -10,9 +10,8 @@ use gateway_run::{
     Day, RunFault, SettingsFault, SettingsFile, audit_day, end_day, read, run_settings, tell,
 };
 use journal_audit::{audit_file, script_file};
-use journal_file::{FileFault, History, PageFault, read_day};
+use journal_file::{DayFile, Ending, FileFault, PageFault, read_file};
 use script_command::{audit_script, tell_refusal};
-use stderr_queue::{LineQueue, Queued, start_writer};
 use std::alloc::Global;
 use std::fs::{File, OpenOptions};
 use std::hash::RandomState;
@@ -163,23 +162,31 @@ fn export_journal(rt: &HostRuntime, journal: &str, format: Option<&str>) -> Exit
 
 /// The same of a journal's bytes.
 fn export_of(rt: &HostRuntime, day: &[u8], format: Format) -> ExitCode {
-    match read_day(rt.alloc(), day) {
-        Ok(history) => export_history(rt, &history, format),
-        Err((_, FileFault::Page(PageFault::NoMemory))) => out_of_memory(rt),
-        Err((page, fault)) => {
-            let _ = eprintln!(rt; "page {page}: {fault}");
-            ExitCode::from(2)
-        }
+    match read_file(rt.alloc(), day) {
+        Ok(read) => export_read(rt, &read, format),
+        Err((page, fault)) => damaged(rt, page, fault),
     }
 }
 
-/// The same of a day.
-fn export_history(rt: &HostRuntime, history: &History, format: Format) -> ExitCode {
+/// Tells that a journal's file is damaged, and where.
+fn damaged(rt: &HostRuntime, page: u32, fault: FileFault) -> ExitCode {
+    if matches!(fault, FileFault::Page(PageFault::NoMemory)) {
+        return out_of_memory(rt);
+    }
+    let _ = eprintln!(rt; "page {page}: {fault}");
+    ExitCode::from(2)
+}
+
+/// Prints the messages of a day that was read, and tells where it goes on.
+fn export_read(rt: &HostRuntime, read: &DayFile, format: Format) -> ExitCode {
     let alloc = rt.alloc();
+    if read.ending != Ending::Over {
+        let _ = eprintln!(rt; "the day goes on");
+    }
     let Ok(mut output) = BufWriter::new(alloc, io::writer(rt)) else {
         return out_of_memory(rt);
     };
-    match export_day(alloc, format, history, &mut output) {
+    match export_day(alloc, format, &read.day, &mut output) {
         Ok(()) => ExitCode::from(0),
         Err(fault) => {
             let _ = eprintln!(rt; "{fault}");

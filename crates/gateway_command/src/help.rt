@@ -105,8 +105,9 @@ reject, and for each message that the market was asked or said, in the order in 
   20261126-13:30:02.310 P1 > ouch=O|token=G0000000000001|shares=300|price=234500
   ..
 
-csv has a line with the names of its columns first; json has an object a line. The status is 0 where all was written, 1
-where memory runs out or a write fails, 2 for a journal that is damaged, a file that can't be read, or another format.";
+csv has a line with the names of its columns first; json has an object a line. Of a day that goes on all that was
+written of it is there, with the day goes on on standard error. The status is 0 where all was written, 1 where memory
+runs out or a write fails, 2 for a journal that is damaged, a file that can't be read, or another format.";
 
 /// Of `gateway demo`.
 pub(crate) const DEMO: &str = "\
