@@ -1,5 +1,8 @@
 //! What a day is called where it is shown.
 
+ghost use Rattle.std.specs.Prelude.{◌≡◌, IfOk, map, string_bytes};
+ghost use Rattle.gateway_serve.specs.Names as spec;
+
 use crate::ending::{end_of, now};
 use gateway_control::DayNames;
 use gateway_run::Settings;
@@ -15,7 +18,11 @@ pub(crate) fn names_of<R: Clock>(
     settings: &Settings,
     addresses: &[String],
     day: DaySettings,
-) -> Result<DayNames, AllocError> {
+) -> Result<DayNames, AllocError>
+    ensures gateway { IfOk result (λ names. names.gateway.items ≡ settings.now.comp) }
+    ensures clients { IfOk result (λ names. map (λ v. v.items) names.clients.items ≡ spec.client_names settings.now) }
+    ensures ports { IfOk result (λ names. map (λ v. v.items) names.ports.items ≡ map string_bytes addresses.now) }
+{
     let clients = client_names(alloc, settings)?;
     let ports = copies_of(alloc, addresses)?;
     let gateway = Vec::from_slice(alloc, settings.comp())?;
@@ -29,7 +36,9 @@ pub(crate) fn names_of<R: Clock>(
 }
 
 /// The names of the clients, in the order of the settings.
-fn client_names(alloc: Global, settings: &Settings) -> Result<Vec<Vec<u8>>, AllocError> {
+fn client_names(alloc: Global, settings: &Settings) -> Result<Vec<Vec<u8>>, AllocError>
+    ensures { IfOk result (λ names. map (λ v. v.items) names.items ≡ spec.client_names settings.now) }
+{
     let mut names = Vec::new(alloc);
     for client in settings.clients() {
         names.push(Vec::from_slice(alloc, client.comp.as_slice())?)?;
@@ -38,7 +47,9 @@ fn client_names(alloc: Global, settings: &Settings) -> Result<Vec<Vec<u8>>, Allo
 }
 
 /// Copies of texts, byte by byte.
-fn copies_of(alloc: Global, texts: &[String]) -> Result<Vec<Vec<u8>>, AllocError> {
+fn copies_of(alloc: Global, texts: &[String]) -> Result<Vec<Vec<u8>>, AllocError>
+    ensures { IfOk result (λ copies. map (λ v. v.items) copies.items ≡ map string_bytes texts.now) }
+{
     let mut copies = Vec::new(alloc);
     for text in texts {
         copies.push(Vec::from_slice(alloc, text.as_bytes())?)?;

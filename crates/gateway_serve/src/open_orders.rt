@@ -103,7 +103,8 @@ fn push_open(text: &mut Vec<u8>, pair: &OrderPair, settings: &Settings) -> Resul
 {
     push_whose(text, pair, settings)?;
     push_shares(text, pair)?;
-    text.extend_from_slice(b" open at the market\n")
+    text.extend_from_slice(b" open at the market\n")?;
+    Ok(())
 }
 
 /// Adds the line of an order that the market hasn't answered.
@@ -116,7 +117,8 @@ fn push_unanswered(
     ensures { OnOk result (text.new.items ≡ text.old.items ++ shown.shown_unanswered settings.now pair.now) }
 {
     push_whose(text, pair, settings)?;
-    text.extend_from_slice(b": asked, not answered\n")
+    text.extend_from_slice(b": asked, not answered\n")?;
+    Ok(())
 }
 
 /// Adds which order it is, and whose.
