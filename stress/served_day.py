@@ -3,6 +3,8 @@
 The gateway starts before its market is there, clients connect and say nothing, or the wrong thing, one never comes, the
 market goes and comes again, and `gateway end` ends the day. Each step prints what came; the status is 0 where all came
 that has to."""
+import csv
+import io
 import json
 import os
 import re
@@ -311,6 +313,7 @@ class Day:
         self.is_so("status.json has the first client", {key: one[key] for key in wanted} == wanted)
         self.is_so("status.json has its numbers",
                    one["next_out"] == max(int(frame[34]) for frame in bank.frames) + 1 and one["link"] > 100)
+        self.is_so("status.json has no order open", (one["open_orders"], two["open_orders"]) == (0, 0))
         self.is_so("status.json has the second client",
                    (two["name"], two["logged_on"], two["next_in"]) == ("FUND", True, fund.sent + 1))
         self.is_so("status.json has the port", (first["state"], first["next"]) == ("up", len(port.said) + 1)
@@ -347,6 +350,8 @@ class Day:
                   ("gateway_client_next_in", "BANK"): one["next_in"],
                   ("gateway_client_next_in", "FUND"): two["next_in"],
                   ("gateway_client_next_out", "BANK"): one["next_out"],
+                  ("gateway_open_orders", "BANK"): one["open_orders"],
+                  ("gateway_open_orders", "FUND"): two["open_orders"],
                   ("gateway_port_up", status["ports"][0]["address"]): 1,
                   ("gateway_port_faulted", status["ports"][0]["address"]): 0,
                   ("gateway_port_next", status["ports"][0]["address"]): status["ports"][0]["next"]}
@@ -409,8 +414,11 @@ class Day:
             self.bank.order(name)
             waits = self.bank.told(name, b"A") is not None
             if turn == 0:
-                status = self.status_where(lambda it: it["ports"][0]["state"] == "down")
+                status = self.status_where(lambda it: it["ports"][0]["state"] == "down"
+                                           and it["clients"][0]["open_orders"] == 1)
                 self.is_so("status.json has a port that is down", status["ports"][0]["state"] == "down")
+                self.is_so("status.json has the order that waits as open",
+                           [client["open_orders"] for client in status["clients"]] == [1, 0])
                 page = self.fetched("/")[2]
                 self.is_so("the page's alarm says so", "<div class=\"alarm\"><b>P1</b> at " in page and
                            page.index("class=\"alarm\"") < page.index("<table"))
@@ -456,6 +464,8 @@ class Day:
     def the_end(self):
         self.bank.order(b"OPEN", b"1")
         self.is_so("an order is open at the market", self.bank.told(b"OPEN", b"0") is not None)
+        status = self.status_where(lambda it: it["clients"][0]["open_orders"] == 1)
+        self.is_so("status.json has it as open", [client["open_orders"] for client in status["clients"]] == [1, 0])
         begin = time.monotonic()
         ran = self.end()
         spent = time.monotonic() - begin
@@ -471,6 +481,32 @@ class Day:
                              capture_output=True, text=True)
         self.is_so("the journal has the same audit", (ran.returncode, ran.stdout) == (0, audit))
         self.market.end()
+
+    def exported(self, *more):
+        return subprocess.run([self.gateway, "export", "--journal", str(self.journal), *more], capture_output=True, text=True)
+
+    def an_export(self):
+        orders = [b"A1", b"R0", b"R1", b"R2", b"M1", b"OPEN"]
+        wanted = [("C1", "in", name.decode()) for name in orders]
+        table, objects, lines = (self.exported("--format", name) for name in ("csv", "json", "messages"))
+        self.is_so("exports have status 0, and csv is the form where none is named",
+                   [ran.returncode for ran in (table, objects, lines)] == [0, 0, 0] and self.exported().stdout == table.stdout)
+        rows = list(csv.DictReader(io.StringIO(table.stdout, newline="")))
+        self.is_so("csv has each new order", [(row["who"], row["way"], row["11"]) for row in rows if row["35"] == "D"] == wanted)
+        said = [json.loads(line) for line in objects.stdout.splitlines()]
+        self.is_so("json has each new order",
+                   [(row["who"], row["way"], row["11"]) for row in said if row.get("35") == "D"] == wanted)
+        self.is_so("json has what csv has", [{key: value for key, value in row.items() if value} for row in rows] == said)
+        self.is_so("a message a line has as many", len(lines.stdout.splitlines()) == len(said)
+                   and sum("C1 < 35=D|" in line for line in lines.stdout.splitlines()) == len(orders))
+        asked, filled = (sum((row["who"], row["way"], row.get("ouch")) == key for row in said)
+                         for key in (("P1", "out", "O"), ("P1", "in", "E")))
+        self.is_so("each order was asked, and all but one filled", (asked, filled) == (len(orders), len(orders) - 1))
+        everything = table.stdout + objects.stdout + lines.stdout
+        self.is_so("neither user nor password is handed on",
+                   "USER01" not in everything and "PASSWORD" not in everything)
+        ran = self.exported("--format", "xml")
+        self.is_so("another form is refused", (ran.returncode, ran.stdout) == (2, ""))
 
     def a_pipe_that_nobody_reads(self):
         words = [self.gateway, "serve", "--settings", str(self.settings)]
@@ -508,7 +544,7 @@ class Day:
     def run(self):
         for step in (self.an_address_in_use, self.nobody_to_end, self.before_the_market, self.bare_connects,
                      self.refused_logons, self.foreign_addresses, self.market_restarts, self.what_is_shown,
-                     self.a_disconnect, self.many_readers, self.headers, self.the_end,
+                     self.a_disconnect, self.many_readers, self.headers, self.the_end, self.an_export,
                      self.a_pipe_that_nobody_reads):
             step()
         print("all is right" if self.wrong == 0 else f"{self.wrong} wrong")
