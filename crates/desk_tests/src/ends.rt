@@ -16,7 +16,14 @@ pub fn turns_to<K: DeskName, R: Wait + Abort>(
     held: u32,
 ) -> Result<(), AllocError> {
     let turned = shared.turn(rt, alloc)?;
-    assert_eq!(rt; turned, Turned { steps, held, refused: 0 });
+    assert_eq!(rt;
+        turned,
+        Turned {
+            steps,
+            held,
+            refused: 0
+        }
+    );
     Ok(())
 }
 

@@ -69,8 +69,8 @@ module _ {S H : Type 0} (s : Settings) (h : History) (f : CoreFields S H) (after
     clients = λ i row at.
         let of_line = rows i row at in
         let line = of_line.0 in
-        subst (IsClientRow s (lists s h) (i + 1)) (sym of_line.1.1)
-        (client-row s (lists s h) (i + 1) line (after.parts.clients i line of_line.1.0) (after.parts.client_links i line of_line.1.0));
+        subst (IsClientRow s (lists s h) (i + 1)) (sym of_line.2)
+        (client-row s (lists s h) (i + 1) line (after.parts.clients i line of_line.1) (after.parts.client_links i line of_line.1));
     port_count = ap length ports ∙ (length-map f.parts.ports.lines.items port_row_of ∙ after.parts.port_count);
     ports = subst (ArePortRows s (lists s h)) (sym ports)
         (each-seen port_row_of (λ i row. IsPortRow s (lists s h) (i + 1) row) f.parts.ports.lines.items

@@ -243,7 +243,11 @@ impl<S: BuildHasher + Drop> Core<S> {
         ensures { IfOk result (λ board. (s : law.Settings) (before : History) → IsAfter s before self.now
             → IsBoard s before board) }
     {
-        let clients = client_rows(alloc, self.parts.clients.lines.as_slice(), &self.parts.orders)?;
+        let clients = client_rows(
+            alloc,
+            self.parts.clients.lines.as_slice(),
+            &self.parts.orders,
+        )?;
         let ports = port_rows(alloc, self.parts.ports.lines.as_slice())?;
         Ok(Board {
             events: self.events,

@@ -7,8 +7,8 @@ use Rattle.gate_core.proofs.rows.client_rows.Given as goal
 
 -- those of the clients so far
 abbrev pub invariant-loop-line : goal.invariant-loop-line
-invariant-loop-line l = record {
+invariant-loop-line g l = record {
   count : length l.rows.items ≡ l.line-index;
-  rows : (terms : List Terms) (before : OrderHistory) → NumbersLeft before → IsAfterTurns terms before l.orders.now
+  rows : (terms : List Terms) (before : OrderHistory) → NumbersLeft before → IsAfterTurns terms before l.orders
       → AreRowsOf before l.lines l.rows.items;
 }

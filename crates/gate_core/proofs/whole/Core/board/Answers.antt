@@ -13,8 +13,11 @@ use Rattle.gate_core.proofs.whole.Core.board.Goals as goal
 
 pub client_rows-requires : goal.client_rows-requires
 client_rows-requires g c =
-    omega (arith, ap (λ (l : List ClientLine). length l) c.as_slice.ensures.value,
-    (sound-shaped c.self.inside.events c.self.inside.parts c.self.invariant.0.parts).few_clients)
+    omega (
+      arith,
+      ap (λ (l : List ClientLine). length l) c.as_slice.ensures.value,
+      (sound-shaped c.self.inside.events c.self.inside.parts c.self.invariant.0.parts).few_clients,
+    )
 
 pub returns : goal.returns
 returns g c s before is =
