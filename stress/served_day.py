@@ -269,8 +269,10 @@ class Day:
         bank = Client(b"BANK", self.at["bank"])
         bank.sent = self.bank.sent
         self.is_so("the client logs on behind them", bank.log_on() is not None)
-        why = "C1 Logon refused: 49=NOBODY isn't this client's name\n"
-        self.is_so(f"why is told, of each ({self.errors.read_text().count(why)})", self.errors.read_text().count(why) == 100)
+        why, until = "C1 Logon refused: 49=NOBODY isn't this client's name\n", time.monotonic() + 5
+        while (count := self.errors.read_text().count(why)) < 100 and time.monotonic() < until:
+            time.sleep(0.02)
+        self.is_so(f"why is told, of each ({count})", count == 100)
         self.bank = bank
 
     def foreign_addresses(self):
