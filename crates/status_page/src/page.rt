@@ -26,6 +26,7 @@ th,td{padding:5px 14px 5px 0;border-bottom:1px solid var(--line);vertical-align:
 .n{text-align:right;font-variant-numeric:tabular-nums}.g{color:var(--good)}.b{color:var(--bad);font-weight:600}\
 .w{color:var(--warn);font-weight:600}.d{color:var(--dim)}\
 .alarm{background:var(--soft);border-left:4px solid var(--bad);padding:8px 12px;margin:10px 0}\
+@media(max-width:560px){body{font-size:13px;padding:12px}th,td{padding:5px 8px 5px 0}th{white-space:normal}}\
 </style>";
 
 /// What stands behind it.
