@@ -1,7 +1,7 @@
 -- How deep the objects of a status nest: few enough for whoever reads it.
 use Rattle.std.proofs.Common.{◌≡◌, ◌≤◌, ℕ, List, [], ◌∷◌, refl, arith}
 use Rattle.std.specs.Prelude.{Option, None, Some, drop, map}
-use Rattle.serde_json.specs.Data.{Data, depth, items_depth}
+use Rattle.serde_json.specs.Data.{depth, items_depth}
 use Rattle.serde_json.specs.View.{items_of}
 use Rattle.status_board.specs.Rows.{ClientRow, PortRow}
 use Rattle.status_board.specs.declared.board.Shown.{Shown}
