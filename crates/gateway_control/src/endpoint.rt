@@ -45,8 +45,8 @@ impl Endpoint {
 }
 
 /// Serves the endpoint at this listener until the day is over, by these rules, in threads of its own, and shows the day
-/// by these names. Where a thread can't be had, those are enough that could; `None` where none could, or the listener is
-/// of no use.
+/// by these names. Where a thread can't be had, those are enough that could; `None` where none could, or the listener
+/// is of no use.
 pub fn serve_endpoint<R>(
     rt: &R,
     alloc: Global,

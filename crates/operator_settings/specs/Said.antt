@@ -1,5 +1,6 @@
 -- When what is read is what a file says.
-use Rattle.std.specs.Prelude.{◌≡◌, ⊤, ℕ, List, take, codes, Option, None, Some, Result, Ok, Err, option_map, string_bytes}
+use Rattle.std.specs.Prelude.{◌≡◌, ⊤, ℕ, List, take, codes, Option, None, Some}
+use Rattle.std.specs.Prelude.{Result, Ok, Err, option_map, string_bytes}
 use Rattle.toml.specs.Data.{Data, get}
 use Rattle.operator_settings.specs.declared.fault.OperatorFault.{OperatorFault}
 use Rattle.operator_settings.specs.declared.fault.OperatorFault.TheVariants as faults

@@ -15,8 +15,8 @@ use std::alloc::Global;
 use toml::Value;
 use toml_datetime::{Datetime, Time};
 
-/// Reads `[day]`: `ends`, a time of day, and `linger`, seconds. Refused by the first of its keys, in this order, that is
-/// wrong, and then by any other key.
+/// Reads `[day]`: `ends`, a time of day, and `linger`, seconds. Refused by the first of its keys, in this order, that
+/// is wrong, and then by any other key.
 pub(crate) fn read_day(alloc: Global, table: &Value) -> Result<DaySettings, OperatorFault>
     ensures judged { Judges (rules.refused_day (view table.now)) result }
     ensures ends { IfOk result (λ day. Some day.ends ≡ rules.ends_in (get (codes "ends") (view table.now))) }

@@ -1,6 +1,7 @@
 //! The whole of an operator's settings.
 
-ghost use Rattle.std.specs.Prelude.{◌≡◌, None, Some, IfOk, IfErr, codes, take, option_and_then, option_map, string_bytes};
+ghost use Rattle.std.specs.Prelude.{◌≡◌, None, Some, IfOk, IfErr, codes};
+ghost use Rattle.std.specs.Prelude.{take, option_and_then, option_map, string_bytes};
 ghost use Rattle.std.specs.Str.{IsUtf8};
 ghost use Rattle.toml.specs.Data.{Members, get, table};
 ghost use Rattle.toml.specs.Parse.{parse_document};

@@ -1,7 +1,8 @@
 -- Why a port is faulted, for an operator.
 use Rattle.std.specs.Prelude.{ℕ, List, codes}
 use Rattle.desk_steps.specs.gate_core.soup_session.declared.port_fault.PortFault.{PortFault}
-use Rattle.desk_steps.specs.gate_core.soup_session.declared.port_fault.PortFault.TheVariants.{StrangePacket, UnknownToken}
+use Rattle.desk_steps.specs.gate_core.soup_session.declared.port_fault.PortFault.TheVariants.{StrangePacket}
+use Rattle.desk_steps.specs.gate_core.soup_session.declared.port_fault.PortFault.TheVariants.{UnknownToken}
 use Rattle.desk_steps.specs.gate_core.soup_session.declared.port_fault.PortFault.TheVariants.{NotLawful, OutsideProfile}
 use Rattle.desk_steps.specs.gate_core.soup_session.declared.port_fault.PortFault.TheVariants.{SequenceGap, OtherSession}
 
