@@ -1,13 +1,17 @@
 //! The order gateway's program: runs a gateway by its settings, shows one, and audits scripts.
 #![tactic(auto)]
 
-use gateway_command::{Asked, asked, links_of};
+ghost use Rattle.std.specs.Prelude.{◌≤◌};
+
+use day_export::{Format, export_day, format_of};
+use gateway_command::{Asked, Error, asked, is_version, links_of};
 use gateway_demo::{Choice, show_demo};
 use gateway_run::{
     Day, DayJournal, RunFault, SettingsFault, SettingsFile, audit_day, end_day, read, run_settings,
     tell,
 };
 use journal_audit::{audit_file, script_file};
+use journal_file::{DayFile, Ending, FileFault, PageFault, read_file};
 use script_command::{audit_script, tell_refusal};
 use std::alloc::Global;
 use std::fs::{File, Files};
@@ -56,13 +60,25 @@ fn main(rt: HostRuntime) -> ExitCode {
             Err(status) => status,
         },
         Ok(Some(Asked::End { settings, at_once })) => end_served(&rt, settings, at_once),
+        Ok(Some(Asked::Export { journal, format })) => export_journal(&rt, journal, format),
         Ok(Some(Asked::Demo)) => demonstrate(&rt, rt.alloc(), &mut rt.stderr()),
         Ok(None) => refused(
             &rt,
             "an audit is of --script FILE, or of --journal FILE with --settings FILE",
         ),
-        Err(error) => ExitCode::from(tell_refusal(&error, &mut io::writer(&rt), &mut rt.stderr())),
+        Err(error) => ExitCode::from(unasked(&error, &mut io::writer(&rt), &mut rt.stderr())),
     }
+}
+
+/// Tells what a command line came to that asks for nothing: the version, the help, or why it is refused. The status is
+/// 0 for the first two, where they could be written.
+fn unasked<W: Write, F: Write>(error: &Error, output: &mut W, faults: &mut F) -> u8
+    ensures { result ≤ 2 }
+{
+    if is_version(error) {
+        return u8::from(write!(output, "{error}").is_err());
+    }
+    tell_refusal(error, output, faults)
 }
 
 /// The words of the command line, or the status where they can't be had.
@@ -133,6 +149,52 @@ fn audit_day_of(rt: &HostRuntime, day: &[u8], file: &SettingsFile) -> ExitCode {
     };
     let status = audit_file(alloc, day, &file.settings, &mut output, &mut rt.stderr());
     ExitCode::from(status)
+}
+
+/// Prints the messages of the day that a journal's file keeps.
+fn export_journal(rt: &HostRuntime, journal: &str, format: Option<&str>) -> ExitCode {
+    let Some(format) = format_of(format) else {
+        return refused(rt, "--format is csv, json or messages");
+    };
+    match file_at(rt, journal) {
+        Ok(day) => export_of(rt, day.as_slice(), format),
+        Err(status) => status,
+    }
+}
+
+/// The same of a journal's bytes.
+fn export_of(rt: &HostRuntime, day: &[u8], format: Format) -> ExitCode {
+    match read_file(rt.alloc(), day) {
+        Ok(read) => export_read(rt, &read, format),
+        Err((page, fault)) => damaged(rt, page, fault),
+    }
+}
+
+/// Tells that a journal's file is damaged, and where.
+fn damaged(rt: &HostRuntime, page: u32, fault: FileFault) -> ExitCode {
+    if matches!(fault, FileFault::Page(PageFault::NoMemory)) {
+        return out_of_memory(rt);
+    }
+    let _ = eprintln!(rt; "page {page}: {fault}");
+    ExitCode::from(2)
+}
+
+/// Prints the messages of a day that was read, and tells where it goes on.
+fn export_read(rt: &HostRuntime, read: &DayFile, format: Format) -> ExitCode {
+    let alloc = rt.alloc();
+    if read.ending != Ending::Over {
+        let _ = eprintln!(rt; "the day goes on");
+    }
+    let Ok(mut output) = BufWriter::new(alloc, io::writer(rt)) else {
+        return out_of_memory(rt);
+    };
+    match export_day(alloc, format, &read.day, &mut output) {
+        Ok(()) => ExitCode::from(0),
+        Err(fault) => {
+            let _ = eprintln!(rt; "{fault}");
+            ExitCode::from(1)
+        }
+    }
 }
 
 /// The settings in a file, or the status where they are refused.

@@ -128,8 +128,11 @@ where
     let status = match ran {
         Ok(day) => {
             let status = ended(rt, alloc, &day, path, &mut output, faults);
-            tell_open_orders(alloc, &day, faults);
-            status
+            if tell_open_orders(alloc, &day, faults) {
+                status
+            } else {
+                status.max(1)
+            }
         }
         Err(fault) => tell(fault, faults),
     };

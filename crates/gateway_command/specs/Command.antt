@@ -1,6 +1,6 @@
 -- The command line of `gateway`: `audit --script FILE` or `audit --journal FILE --settings FILE`, `journal --script
 -- FILE`, `run --settings FILE [--links N] [--journal FILE]`, `serve --settings FILE [--journal FILE]`, `end --settings
--- FILE [--now]`, `demo`, and nothing else but a call for help.
+-- FILE [--now]`, `demo`, and nothing else but a call for help or `--version`.
 use Rattle.std.specs.Prelude.{ℕ, Bool, true, false, List, Option, Some, None, codes, if◌then◌else◌, option_and_then, option_map}
 use Rattle.std.specs.Prelude.{nat_le, ◌&&◌}
 use Rattle.std.specs.Char.{is_ascii_digit}
@@ -11,6 +11,8 @@ use Rattle.clap.specs.Simple.{new_shape}
 use Rattle.clap.specs.Words.{App, Row, Rule, Text, Kinds, fault_of, first_of, new_app, new_rule, subcommand_of}
 use Rattle.clap.specs.Words.{with_rule, with_subcommand}
 use Rattle.clap.specs.declared.builder.action.ArgAction.TheVariants.{Set, SetTrue}
+use Rattle.clap.specs.declared.error.kind.ErrorKind.{ErrorKind}
+use Rattle.clap.specs.declared.error.kind.ErrorKind.TheVariants as kinds
 
 -- an option with a value, as `--script FILE`
 abbrev pub value_rule : Text → Rule
@@ -55,15 +57,20 @@ serves =
 abbrev pub ends : App
 ends = with_rule (with_rule (new_app (codes "end")) (required_rule (codes "settings"))) (flag_rule (codes "now"))
 
+-- `export --journal FILE [--format NAME]`
+abbrev pub exports : App
+exports =
+    with_rule (with_rule (new_app (codes "export")) (required_rule (codes "journal"))) (value_rule (codes "format"))
+
 -- `demo`
 abbrev pub demo : App
 demo = new_app (codes "demo")
 
--- `gateway`, which nothing may follow but a subcommand; alone it asks for help
+-- `gateway`, which nothing may follow but a subcommand, or `--version`; alone it asks for help
 abbrev pub alone : App
 alone = record (new_app (codes "gateway")) {
   top = record
-      (new_shape (codes "gateway")) { subcommand_required = true; arg_required_else_help = true };
+      (new_shape (codes "gateway")) { subcommand_required = true; arg_required_else_help = true; has_version = true };
 }
 
 -- a command with a subcommand more
@@ -74,7 +81,9 @@ with_command command more = with_subcommand command more.top
 abbrev pub gateway : App
 gateway =
     with_command
+    (with_command
     (with_command (with_command (with_command (with_command (with_command alone runs) serves) ends) demo) audit)
+    exports)
     journal
 
 -- the subcommand that `clap` finds in the words of a command line, with its arguments, and why it refuses them
@@ -95,6 +104,7 @@ pub data Asking : Type 0 where
   Runs : (settings : Text) (links : Option Text) (journal : Option Text) → Asking
   Serves : (settings : Text) (journal : Option Text) → Asking
   Ends : (settings : Text) (at_once : Bool) → Asking
+  Exports : (journal : Text) (format : Option Text) → Asking
   Demonstrates : Asking
 
 -- What a subcommand asks for, by its name and its arguments. An audit is of a script alone, or of a journal with its
@@ -143,6 +153,10 @@ abbrev pub end_asked : List Row → Option Asking
 end_asked rows =
     option_map (λ (file : Text). Ends file (is_said (first_of (codes "now") rows))) (first_of (codes "settings") rows)
 
+abbrev pub export_asked : List Row → Option Asking
+export_asked rows =
+    option_map (λ (file : Text). Exports file (first_of (codes "format") rows)) (first_of (codes "journal") rows)
+
 unfoldable pub asking_of : Text → List Row → Option Asking
 asking_of name rows =
     if bytes_eq name (codes "audit") then audit_asked rows
@@ -151,6 +165,7 @@ asking_of name rows =
     else if bytes_eq name (codes "serve") then serve_asked rows
     else if bytes_eq name (codes "end") then end_asked rows
     else if bytes_eq name (codes "demo") then Some Demonstrates
+    else if bytes_eq name (codes "export") then export_asked rows
     else None
 
 abbrev pub asked_in : Option (Text × List Row) → Option Asking
@@ -159,6 +174,11 @@ asked_in = option_and_then (λ p. asking_of p.0 p.1)
 -- what the words ask for
 abbrev pub asked_of : List Text → Option Asking
 asked_of words = asked_in (gateway_found words)
+
+-- the version is asked for
+abbrev pub is_version : ErrorKind → Bool
+is_version kinds.DisplayVersion = true
+is_version other = false
 
 -- how many links of each client are served: digits, for 1 to 1,000; 1 where nothing is said
 abbrev pub links_in : Text → Option ℕ

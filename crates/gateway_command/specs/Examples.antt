@@ -150,6 +150,15 @@ help_of_gateway : Refuses (codes "--help" ∷ []) (kind.DisplayHelp ∷ [])
 unfolding clap_on_literals gateway_faults
 help_of_gateway = refl
 
+the_version : Refuses (codes "--version" ∷ []) (kind.DisplayVersion ∷ [])
+unfolding clap_on_literals gateway_faults
+the_version = refl
+
+-- a subcommand has none of its own
+the_version_of_serve : Refuses (codes "serve" ∷ codes "--version" ∷ []) (kind.UnknownArgument ∷ [])
+unfolding clap_on_literals gateway_faults
+the_version_of_serve = refl
+
 help_of_audit : Refuses (codes "audit" ∷ codes "--help" ∷ []) (kind.DisplayHelp ∷ [])
 unfolding clap_on_literals gateway_faults
 help_of_audit = refl

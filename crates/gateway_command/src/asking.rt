@@ -42,6 +42,13 @@ pub enum Asked<'a> {
         /// Whether it ends at once, and doesn't await the market's answers for a while.
         at_once: bool,
     },
+    /// The messages of the day that a journal's file keeps.
+    Export {
+        /// The journal's file.
+        journal: &'a str,
+        /// The form, as it was said.
+        format: Option<&'a str>,
+    },
     /// The demonstration.
     Demo,
 }

@@ -95,6 +95,21 @@ The gateway is told over the address of [control] in its settings, and with thei
 The status is 0 once it has ended, 1 where it hasn't within 60 seconds, or refuses, 2 where nobody answers, or the
 settings are refused or name no address.";
 
+/// Of `gateway export`.
+pub(crate) const EXPORT: &str = "\
+A journal has the passwords of ports, and isn't handed on. Its export is: a row for each new order, request, report and
+reject, and for each message that the market was asked or said, in the order in which they came and were told.
+
+  $ gateway export --journal monday.day --format messages
+  20261126-13:30:02.310 C1 < 35=D|11=A1|54=1|55=INTC|38=300|40=2|44=23.45
+  20261126-13:30:02.310 C1 > 35=8|37=1|11=A1|17=1|150=A|39=A|55=INTC|54=1|38=300|44=23.45|151=300|14=0|6=0
+  20261126-13:30:02.310 P1 > ouch=O|token=G0000000000001|shares=300|price=234500
+  ..
+
+csv has a line with the names of its columns first; json has an object a line. Of a day that goes on all that was
+written of it is there, with the day goes on on standard error. The status is 0 where all was written, 1 where memory
+runs out or a write fails, 2 for a journal that is damaged, a file that can't be read, or another format.";
+
 /// Of `gateway demo`.
 pub(crate) const DEMO: &str = "\
 Two clients send three orders each, a simulated market takes and fills them, all on loopback; printed is the audit:

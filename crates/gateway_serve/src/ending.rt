@@ -47,17 +47,15 @@ fn watch<R: Clock + Wait>(
     flags: &DayFlags,
     lines: &LineQueue,
 ) {
-    let DaySettings { ends, linger, .. } = settings;
-    let end = match (ends, now(rt)) {
-        (Some(time), Some(now)) => Some(next_at(now, time)),
-        _ => None,
-    };
+    let end = end_of(rt, settings);
+    let DaySettings { linger, .. } = settings;
     if !waits_for_the_end(rt, end, control, flags) {
         return;
     }
     if flags.is_over() {
         let _ = lines.tell(rt, "gateway: journal: write failed: nothing more is told");
         flags.end_clients();
+        control.end_links();
         return;
     }
     let _ = lines.tell(rt, "gateway: the day ends: no further link is taken");
@@ -69,6 +67,17 @@ fn watch<R: Clock + Wait>(
         thread::sleep(rt, look());
     }
     flags.end_clients();
+    control.end_links();
+}
+
+/// The first moment behind now at which the day ends by its time, in milliseconds since 1970; `None` where it ends when
+/// it is told to.
+pub(crate) fn end_of<R: Clock>(rt: &R, settings: DaySettings) -> Option<u64> {
+    let DaySettings { ends, .. } = settings;
+    match (ends, now(rt)) {
+        (Some(time), Some(now)) => Some(next_at(now, time)),
+        _ => None,
+    }
 }
 
 /// Waits until the day is to end, by its time, since it is told to, or since its journal is lost; `false` where it is
@@ -100,7 +109,7 @@ fn is_reached<R: Clock>(rt: &R, end: Option<u64>) -> bool {
 }
 
 /// Now, in milliseconds since 1970; `None` where the system can't say, or is 285 million years from then.
-fn now<R: Clock>(rt: &R) -> Option<u64>
+pub(crate) fn now<R: Clock>(rt: &R) -> Option<u64>
     ensures { IfSome result (λ now. now < 2 ^ 63) }
 {
     let since = rt.since_1970().ok()?;

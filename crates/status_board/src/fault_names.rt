@@ -1,9 +1,14 @@
 //! Why a port is faulted, for an operator.
 
+ghost use Rattle.std.specs.Prelude.{◌≡◌};
+ghost use Rattle.status_board.specs.Faults as spec;
+
 use desk_steps::PortFault;
 
 /// A fault's name.
-pub fn fault_name(fault: PortFault) -> &'static str {
+pub fn fault_name(fault: PortFault) -> &'static str
+    ensures { result.now ≡ spec.fault_name fault }
+{
     match fault {
         PortFault::StrangePacket => "a packet or payload that can't be read",
         PortFault::UnknownToken => "a token that no order of this port has",
