@@ -25,8 +25,12 @@ use stderr_queue::{LineQueue, Queued, start_writer};
 
 #[cfg(test)]
 mod missing_files;
+mod played;
 mod served;
+#[cfg(test)]
+mod world_numbers;
 
+use played::{asked_shape, play_world};
 use served::{asked_serve, end_served, serve_until_told};
 
 fn main(rt: HostRuntime) -> ExitCode {
@@ -55,6 +59,19 @@ fn main(rt: HostRuntime) -> ExitCode {
             Err(status) => status,
         },
         Ok(Some(Asked::End { settings, at_once })) => end_served(&rt, settings, at_once),
+        Ok(
+            Some(
+                Asked::World {
+                    seed,
+                    steps,
+                    clients,
+                    ports,
+                },
+            ),
+        ) => match asked_shape(&rt, seed, steps, clients, ports) {
+            Ok(shape) => play_world(&rt, &shape),
+            Err(status) => status,
+        },
         Ok(Some(Asked::Demo)) => demonstrate(&rt, rt.alloc(), &mut rt.stderr()),
         Ok(None) => refused(
             &rt,

@@ -1,6 +1,6 @@
 -- What a command line asks for, as contracts see it.
 use Rattle.std.specs.Prelude.{option_map}
-use Rattle.gateway_command.specs.Command.{Asking, Audits, AuditsDay, Demonstrates, Ends, Keeps, Runs, Serves}
+use Rattle.gateway_command.specs.Command.{Asking, Audits, AuditsDay, Demonstrates, Ends, Keeps, Plays, Runs, Serves}
 use Rattle.gateway_command.specs.declared.asking.Asked.{Asked}
 use Rattle.gateway_command.specs.declared.asking.Asked.TheVariants as asked
 
@@ -13,3 +13,5 @@ asked_seen (asked.Run settings links journal) = Runs settings.now (option_map (�
 asked_seen (asked.Serve settings journal) = Serves settings.now (option_map (λ text. text.now) journal)
 asked_seen (asked.End settings at_once) = Ends settings.now at_once
 asked_seen asked.Demo = Demonstrates
+asked_seen (asked.World seed steps clients ports) = Plays seed.now steps.now (option_map (λ text. text.now) clients)
+    (option_map (λ text. text.now) ports)

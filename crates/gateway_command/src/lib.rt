@@ -5,5 +5,5 @@ mod asking;
 mod command;
 mod help;
 
-pub use asking::{Asked, links_of};
+pub use asking::{Asked, links_of, number_between};
 pub use command::asked;

@@ -1,0 +1,68 @@
+//! Worlds of seeds.
+
+use crate::order::judge_orders;
+use crate::sums::Sums;
+use decimal_digits::number_of;
+use random_world::{Shape, counts_of, play, random_steps, world_settings};
+use std::alloc::Global;
+use std::io::{self, Write};
+
+/// `FIRST LAST STEPS CLIENTS PORTS`: the worlds of these seeds, and a line of sums; false where the text isn't so. A
+/// world that isn't right has a line of its own in front.
+pub fn run_seeds<W: Write>(alloc: Global, text: &[u8], output: &mut W) -> io::Result<bool> {
+    let mut numbers = Vec::new(alloc);
+    for word in text.split(|byte| *byte == b' ') {
+        match number_of(word) {
+            Some(number) => numbers.push(number)?,
+            None => return Ok(false),
+        }
+    }
+    let [first, last, steps, clients, ports] = numbers.as_slice() else {
+        return Ok(false);
+    };
+    let (Ok(steps), Ok(clients), Ok(ports)) = (
+        u32::try_from(*steps),
+        u16::try_from(*clients),
+        u16::try_from(*ports),
+    ) else {
+        return Ok(false);
+    };
+    let mut sums = Sums::none();
+    for seed in *first..last.saturating_add(1) {
+        let shape = Shape {
+            seed,
+            steps,
+            clients,
+            ports,
+        };
+        if !run_seed(alloc, &shape, &mut sums, output)? {
+            return Ok(false);
+        }
+    }
+    writeln!(output, "{sums}")?;
+    Ok(true)
+}
+
+/// The world of a seed; false where there are no such settings.
+fn run_seed<W: Write>(
+    alloc: Global,
+    shape: &Shape,
+    sums: &mut Sums,
+    output: &mut W,
+) -> io::Result<bool> {
+    let Some(settings) = world_settings(alloc, shape.clients, shape.ports)? else {
+        return Ok(false);
+    };
+    let steps = random_steps(alloc, &settings, shape)?;
+    let Ok(played) = play(alloc, &settings, steps.as_slice()) else {
+        writeln!(output, "seed {}: not played", shape.seed)?;
+        return Ok(true);
+    };
+    let counts = counts_of(alloc, u64::from(shape.steps), &played)?;
+    if !counts.is_right() {
+        writeln!(output, "seed {}: {counts}", shape.seed)?;
+    }
+    sums.add(&counts);
+    judge_orders(alloc, shape.seed, &played, sums, output)?;
+    Ok(true)
+}
