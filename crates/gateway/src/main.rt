@@ -8,7 +8,6 @@ use gateway_run::{
 };
 use journal_audit::{audit_file, script_file};
 use script_command::{audit_script, tell_refusal};
-use stderr_queue::{LineQueue, Queued, start_writer};
 use std::alloc::Global;
 use std::fs::{File, OpenOptions};
 use std::hash::RandomState;
