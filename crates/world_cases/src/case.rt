@@ -2,10 +2,14 @@
 
 ghost use Rattle.std.specs.Prelude.{◌<◌, IfSome};
 
-use crate::judging::{Judged, judge};
+use crate::judging::{Named, judge, played_of};
 use crate::sender::Sender;
+use crate::sums::Sums;
+use audit_lines::audit_text;
+use batch_lines::{Flags, batch_text};
 use closed_world::{Choice, ClientNumber, Event, PortNumber, WorldStep};
-use random_world::{Settings, frame_of, world_settings};
+use random_world::{Played, Settings, frame_of, world_settings};
+use soup_packets::{Packet, Payload};
 use std::alloc::Global;
 use std::io::{self, ErrorKind, Write};
 
@@ -16,6 +20,9 @@ const PORTS: u16 = 2;
 
 /// How many packets are delivered each way in the end.
 const ROUNDS: u32 = 12;
+
+/// A port's link that no connection has.
+const OTHER_LINK: u64 = 1_000;
 
 /// The moment at which a case begins.
 const FIRST_MOMENT: u64 = 1_764_595_800_000;
@@ -123,27 +130,99 @@ impl Case {
         Ok(true)
     }
 
+    /// A step that can't be taken: an event of a port, brought from without. A port's link comes.
+    pub fn port_up(&mut self, number: u16) -> io::Result<bool> {
+        let Some(port) = PortNumber::of(number) else {
+            return Ok(false);
+        };
+        let (link, at) = (OTHER_LINK, self.at);
+        self.push(WorldStep::Client(Event::PortUp { port, link, at }))?;
+        Ok(true)
+    }
+
+    /// The same: a port's link is gone.
+    pub fn port_gone(&mut self, number: u16) -> io::Result<bool> {
+        let Some(port) = PortNumber::of(number) else {
+            return Ok(false);
+        };
+        let (link, at) = (OTHER_LINK, self.at);
+        self.push(WorldStep::Client(Event::PortGone { port, link, at }))?;
+        Ok(true)
+    }
+
+    /// The same: a heartbeat comes on a port's link.
+    pub fn port_packet(&mut self, alloc: Global, number: u16) -> io::Result<bool> {
+        let Some(port) = PortNumber::of(number) else {
+            return Ok(false);
+        };
+        let event = Event::PortPacket {
+            port,
+            link: OTHER_LINK,
+            at: self.at,
+            packet: Packet {
+                kind: b'H',
+                payload: Payload::empty(alloc),
+            },
+        };
+        self.push(WorldStep::Client(event))?;
+        Ok(true)
+    }
+
     /// Plays the case, and prints what came of it.
     pub fn end<W: Write>(&self, alloc: Global, output: &mut W) -> io::Result<()> {
         let settings = case_settings(alloc)?;
-        let judged = judge(alloc, &settings, self.steps.as_slice())?;
-        self.tell(&judged, output)
+        let mut sums = Sums::none();
+        let played = judge(alloc, self.as_played(&settings), &mut sums, output)?;
+        self.tell(alloc, &sums, &played, output)
     }
 
     /// Plays the case with all that is on its way delivered in the end, without a loss and with one behind each of its
-    /// deliveries in turn, and prints what came of them together.
+    /// deliveries in turn, and prints what came of them together, and then of the one without a loss.
     pub fn end_crossed<W: Write>(&mut self, alloc: Global, output: &mut W) -> io::Result<()> {
         let settings = case_settings(alloc)?;
+        let mut sums = Sums::none();
         self.deliver_all()?;
-        let judged = self.crossed(alloc, &settings)?;
-        self.tell(&judged, output)
+        let played = judge(alloc, self.as_played(&settings), &mut sums, output)?;
+        self.cross(alloc, &settings, &mut sums, output)?;
+        self.tell(alloc, &sums, &played, output)
+    }
+
+    /// Plays the case, and prints what links are told, batch by batch.
+    pub fn tell_links<W: Write>(&self, alloc: Global, output: &mut W) -> io::Result<()> {
+        let settings = case_settings(alloc)?;
+        let played = played_of(alloc, self.as_played(&settings))?;
+        let flags = Flags {
+            num: false,
+            raw: false,
+            cold: false,
+        };
+        for batch in &played.history.batches(alloc)? {
+            output.write_all(batch_text(alloc, flags, batch)?.as_slice())?;
+        }
+        Ok(())
+    }
+
+    /// The steps so far, to be played.
+    fn as_played<'a>(&'a self, settings: &'a Settings) -> Named<'a> {
+        Named {
+            name: self.name.as_slice(),
+            settings,
+            steps: self.steps.as_slice(),
+            counted: self.steps.len() as u64,
+        }
     }
 
     /// Prints what came of the case.
-    fn tell<W: Write>(&self, judged: &Judged, output: &mut W) -> io::Result<()> {
+    fn tell<W: Write>(
+        &self,
+        alloc: Global,
+        sums: &Sums,
+        played: &Played,
+        output: &mut W,
+    ) -> io::Result<()> {
         output.write_all(self.name.as_slice())?;
-        writeln!(output, ": {judged}")?;
-        Ok(())
+        writeln!(output, ": {sums}")?;
+        output.write_all(audit_text(alloc, played.pairs.as_slice())?.as_slice())
     }
 
     /// All that is on its way is delivered.
@@ -160,15 +239,24 @@ impl Case {
         Ok(())
     }
 
-    /// The case without a loss, and with one behind each of its deliveries in turn.
-    fn crossed(&mut self, alloc: Global, settings: &Settings) -> io::Result<Judged> {
-        let mut judged = judge(alloc, settings, self.steps.as_slice())?;
+    /// Plays the case with a loss behind each of its deliveries in turn.
+    fn cross<W: Write>(
+        &mut self,
+        alloc: Global,
+        settings: &Settings,
+        sums: &mut Sums,
+        output: &mut W,
+    ) -> io::Result<()> {
         for place in 0..self.steps.len() {
             if let Some(port) = self.delivery_at(place) {
-                judged = judged.with(self.lost_behind(alloc, settings, place, port)?);
+                self.insert_behind(place, WorldStep::Connect(port))?;
+                self.insert_behind(place, WorldStep::Lose(port))?;
+                let _played = judge(alloc, self.as_played(settings), sums, output)?;
+                self.remove_behind(place);
+                self.remove_behind(place);
             }
         }
-        Ok(judged)
+        Ok(())
     }
 
     /// The port of the delivery at a place; `None` where there is none.
@@ -178,22 +266,6 @@ impl Case {
             Some(WorldStep::ToCore(port)) => Some(*port),
             _ => None,
         }
-    }
-
-    /// The case with a loss of a port behind the step at a place.
-    fn lost_behind(
-        &mut self,
-        alloc: Global,
-        settings: &Settings,
-        place: usize,
-        port: u16,
-    ) -> io::Result<Judged> {
-        self.insert_behind(place, WorldStep::Connect(port))?;
-        self.insert_behind(place, WorldStep::Lose(port))?;
-        let judged = judge(alloc, settings, self.steps.as_slice())?;
-        self.remove_behind(place);
-        self.remove_behind(place);
-        Ok(judged)
     }
 
     /// A step more behind the one at a place, where there is one.

@@ -1,77 +1,44 @@
-//! What came of a case.
+//! Steps, played and judged.
 
-use random_world::{Settings, WorldStep, counts_of, play};
+use crate::order::judge_orders;
+use crate::sums::Sums;
+use random_world::{Played, ReadingFault, Settings, WorldStep, counts_of, play};
 use std::alloc::Global;
-use std::fmt;
-use std::io::{self, ErrorKind};
+use std::io::{self, ErrorKind, Write};
 
-/// What came of a case, or of some together.
+/// Steps to be played, and their name.
 #[derive(Clone, Copy)]
-pub struct Judged {
-    plays: u64,
-    events: u64,
-    orders: u64,
-    trades: u64,
-    faults: u64,
-    agree: u64,
+pub struct Named<'a> {
+    pub name: &'a [u8],
+    pub settings: &'a Settings,
+    pub steps: &'a [WorldStep],
+    /// How many of the steps are counted.
+    pub counted: u64,
 }
 
-impl Judged {
-    /// Of no case.
-    pub fn none() -> Judged {
-        Judged {
-            plays: 0,
-            events: 0,
-            orders: 0,
-            trades: 0,
-            faults: 0,
-            agree: 0,
-        }
+/// Plays steps, and adds what came of them to sums. What isn't right has a line of its own, behind the name.
+pub fn judge<W: Write>(
+    alloc: Global,
+    named: Named<'_>,
+    sums: &mut Sums,
+    output: &mut W,
+) -> io::Result<Played> {
+    let played = played_of(alloc, named)?;
+    let counts = counts_of(alloc, named.counted, &played)?;
+    if !counts.is_right() {
+        output.write_all(named.name)?;
+        writeln!(output, ": {counts}")?;
     }
-
-    /// Both together.
-    pub fn with(self, other: Judged) -> Judged {
-        Judged {
-            plays: self.plays.saturating_add(other.plays),
-            events: self.events.saturating_add(other.events),
-            orders: self.orders.saturating_add(other.orders),
-            trades: self.trades.saturating_add(other.trades),
-            faults: self.faults.saturating_add(other.faults),
-            agree: self.agree.saturating_add(other.agree),
-        }
-    }
+    sums.add(&counts);
+    judge_orders(alloc, named.name, &played, sums, output)?;
+    Ok(played)
 }
 
-impl fmt::Display for Judged {
-    fn fmt<W: fmt::Write>(&self, f: &mut fmt::Formatter<W>) -> fmt::Result {
-        let Judged {
-            plays,
-            events,
-            orders,
-            trades,
-            faults,
-            agree,
-        } = self;
-        write!(
-            f,
-            "plays {plays} events {events} orders {orders} trades {trades} "
-        )?;
-        write!(f, "faults {faults} agree {agree}")
+/// What comes of steps.
+pub fn played_of(alloc: Global, named: Named<'_>) -> io::Result<Played> {
+    match play(alloc, named.settings, named.steps) {
+        Ok(played) => Ok(played),
+        Err(ReadingFault::NoMemory) => Err(io::Error::from(ErrorKind::OutOfMemory)),
+        Err(ReadingFault::TooLarge) => Err(io::Error::from(ErrorKind::InvalidData)),
     }
-}
-
-/// Plays steps.
-pub fn judge(alloc: Global, settings: &Settings, steps: &[WorldStep]) -> io::Result<Judged> {
-    let Ok(played) = play(alloc, settings, steps) else {
-        return Err(io::Error::from(ErrorKind::OutOfMemory));
-    };
-    let counts = counts_of(alloc, steps.len() as u64, &played)?;
-    Ok(Judged {
-        plays: 1,
-        events: counts.events,
-        orders: counts.orders,
-        trades: counts.trades,
-        faults: counts.faults,
-        agree: counts.agree,
-    })
 }

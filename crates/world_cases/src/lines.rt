@@ -41,6 +41,7 @@ impl Lines {
         match word {
             b"case" => self.case = Case::named(alloc, rest)?,
             b"end" => self.case.end(alloc, output)?,
+            b"told" => self.case.tell_links(alloc, output)?,
             b"crossings" => self.case.end_crossed(alloc, output)?,
             b"worlds" => return run_seeds(alloc, rest, output),
             b"at" => return Ok(self.case.at(number_of(rest))),
@@ -60,6 +61,9 @@ impl Lines {
             b"log_on" => return self.case.log_on(alloc, number),
             b"gone" => return self.case.gone(number),
             b"tick" => return self.case.tick(number),
+            b"port_up" => return self.case.port_up(number),
+            b"port_packet" => return self.case.port_packet(alloc, number),
+            b"port_gone" => return self.case.port_gone(number),
             b"connect" => WorldStep::Connect(number),
             b"core" => WorldStep::ToCore(number),
             b"lose" => WorldStep::Lose(number),

@@ -1,4 +1,4 @@
-//! What is judged of each order of a world beside its accounts: what was asked for it at most, how many replaces were
+//! What is judged of each order of a play beside its accounts: what was asked for it at most, how many replaces were
 //! pending, and whether a fill or kill was filled in part.
 
 use crate::sums::{Sums, add};
@@ -26,10 +26,10 @@ struct Order {
     pending: Vec<Vec<u8>>,
 }
 
-/// Judges the orders of a world.
+/// Judges the orders of a play.
 pub fn judge_orders<W: Write>(
     alloc: Global,
-    seed: u64,
+    name: &[u8],
     played: &Played,
     sums: &mut Sums,
     output: &mut W,
@@ -43,7 +43,7 @@ pub fn judge_orders<W: Write>(
     for (pair, book) in played.pairs.iter().zip(played.books.as_slice()) {
         for order in &orders {
             if order.client == pair.client && order.id.as_slice() == pair.id.as_slice() {
-                judge_order(seed, order, book, sums, output)?;
+                judge_order(name, order, book, sums, output)?;
             }
         }
     }
@@ -52,7 +52,7 @@ pub fn judge_orders<W: Write>(
 
 /// Judges an order by its market's book.
 fn judge_order<W: Write>(
-    seed: u64,
+    name: &[u8],
     order: &Order,
     book: &BookRow,
     sums: &mut Sums,
@@ -60,7 +60,7 @@ fn judge_order<W: Write>(
 ) -> io::Result<()> {
     if book.executed.saturating_add(book.unfilled) > order.greatest {
         add(&mut sums.over, 1);
-        writeln!(output, "seed {seed}: more than was asked")?;
+        tell(name, "more than was asked", output)?;
     }
     if !order.is_fill_or_kill || order.is_replaced {
         return Ok(());
@@ -70,8 +70,15 @@ fn judge_order<W: Write>(
         add(&mut sums.filled, 1);
     } else if book.executed != 0 {
         add(&mut sums.partly, 1);
-        writeln!(output, "seed {seed}: filled in part")?;
+        tell(name, "filled in part", output)?;
     }
+    Ok(())
+}
+
+/// A line of a play that isn't right.
+fn tell<W: Write>(name: &[u8], what: &str, output: &mut W) -> io::Result<()> {
+    output.write_all(name)?;
+    writeln!(output, ": {what}")?;
     Ok(())
 }
 

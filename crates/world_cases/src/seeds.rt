@@ -1,9 +1,9 @@
 //! Worlds of seeds.
 
-use crate::order::judge_orders;
+use crate::judging::{Named, judge};
 use crate::sums::Sums;
 use decimal_digits::number_of;
-use random_world::{Shape, counts_of, play, random_steps, world_settings};
+use random_world::{Shape, random_steps, world_settings};
 use std::alloc::Global;
 use std::io::{self, Write};
 
@@ -54,15 +54,13 @@ fn run_seed<W: Write>(
         return Ok(false);
     };
     let steps = random_steps(alloc, &settings, shape)?;
-    let Ok(played) = play(alloc, &settings, steps.as_slice()) else {
-        writeln!(output, "seed {}: not played", shape.seed)?;
-        return Ok(true);
+    let name = format!(in alloc; "seed {}", shape.seed)?;
+    let named = Named {
+        name: name.as_str().as_bytes(),
+        settings: &settings,
+        steps: steps.as_slice(),
+        counted: u64::from(shape.steps),
     };
-    let counts = counts_of(alloc, u64::from(shape.steps), &played)?;
-    if !counts.is_right() {
-        writeln!(output, "seed {}: {counts}", shape.seed)?;
-    }
-    sums.add(&counts);
-    judge_orders(alloc, shape.seed, &played, sums, output)?;
+    let _played = judge(alloc, named, sums, output)?;
     Ok(true)
 }

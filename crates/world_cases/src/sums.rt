@@ -1,12 +1,12 @@
-//! Sums over worlds of seeds.
+//! Sums over plays.
 
 use random_world::Counts;
 use std::fmt;
 
-/// What came of some worlds, together.
+/// What came of some plays, together.
 #[derive(Clone, Copy)]
 pub struct Sums {
-    worlds: u64,
+    plays: u64,
     steps: u64,
     events: u64,
     orders: u64,
@@ -32,10 +32,10 @@ pub struct Sums {
 }
 
 impl Sums {
-    /// Of no world.
+    /// Of no play.
     pub fn none() -> Sums {
         Sums {
-            worlds: 0,
+            plays: 0,
             steps: 0,
             events: 0,
             orders: 0,
@@ -55,9 +55,9 @@ impl Sums {
         }
     }
 
-    /// One world more.
+    /// One play more.
     pub fn add(&mut self, counts: &Counts) {
-        add(&mut self.worlds, 1);
+        add(&mut self.plays, 1);
         add(&mut self.steps, counts.steps);
         add(&mut self.events, counts.events);
         add(&mut self.orders, counts.orders);
@@ -75,7 +75,7 @@ pub fn add(sum: &mut u64, more: u64) {
 
 impl fmt::Display for Sums {
     fn fmt<W: fmt::Write>(&self, f: &mut fmt::Formatter<W>) -> fmt::Result {
-        let (worlds, steps, events) = (self.worlds, self.steps, self.events);
+        let (plays, steps, events) = (self.plays, self.steps, self.events);
         let (orders, trades, lost, closed) = (self.orders, self.trades, self.lost, self.closed);
         let (replaced, fell, broken, pending) = (
             self.replaced,
@@ -85,7 +85,7 @@ impl fmt::Display for Sums {
         );
         let (killed, filled, over, partly) = (self.killed, self.filled, self.over, self.partly);
         let (faults, agree) = (self.faults, self.agree);
-        write!(f, "worlds {worlds} steps {steps} events {events} ")?;
+        write!(f, "plays {plays} steps {steps} events {events} ")?;
         write!(
             f,
             "orders {orders} trades {trades} lost {lost} closed {closed} "
