@@ -113,7 +113,7 @@ links are lost with what is on their way, and come again; all in memory. In the 
 that was accepted is judged: what its client read of it, what its market said, and what its market's book has:
 
   $ gateway world --seed 7 --steps 300
-  steps 300 events 289 orders 45 trades 4 lost 7 faults 0 agree 45
+  steps 300 events 168 orders 22 trades 8 lost 14 faults 0 agree 22
 
 The same seed draws the same steps. The status is 0 where no message of the market was a fault and all orders agree, 1
 where not, and where memory runs out, 2 for a number that isn't one, or is out of its range.";
