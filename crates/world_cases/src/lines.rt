@@ -2,7 +2,7 @@
 
 use crate::case::Case;
 use crate::choices::choice_of;
-use crate::seeds::run_seeds;
+use crate::seeds::{run_seeds, show_seed};
 use closed_world::WorldStep;
 use decimal_digits::number_of;
 use std::alloc::Global;
@@ -44,6 +44,7 @@ impl Lines {
             b"told" => self.case.tell_links(alloc, output)?,
             b"crossings" => self.case.end_crossed(alloc, output)?,
             b"worlds" => return run_seeds(alloc, rest, output),
+            b"world" => return show_seed(alloc, rest, output),
             b"at" => return Ok(self.case.at(number_of(rest))),
             _ => return self.step(alloc, word, rest),
         }
