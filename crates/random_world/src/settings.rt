@@ -1,5 +1,6 @@
 //! The settings of a world.
 
+use fix_fields::is_value;
 use gate_core::{ClientSettings, ClientTerms, PortSettings, Settings, Text};
 use std::alloc::{AllocError, Global};
 
@@ -57,5 +58,10 @@ fn client(alloc: Global, place: u16, ports: u16) -> Result<ClientSettings, Alloc
 /// The name of the client at a place: `C` and its number.
 fn client_name(alloc: Global, place: u16) -> Result<Text, AllocError> {
     let name = format!(in alloc; "C{}", u32::from(place) + 1)?;
-    Text::copied(alloc, name.as_str().as_bytes())
+    let bytes = name.as_str().as_bytes();
+    if !is_value(bytes) {
+        // digits are values; settings with a client of no name aren't served
+        return Text::copied(alloc, &[]);
+    }
+    Text::copied(alloc, bytes)
 }
