@@ -29,9 +29,13 @@ use stderr_queue::{LineQueue, Queued, start_writer};
 mod journal;
 #[cfg(test)]
 mod missing_files;
+mod played;
 mod served;
+#[cfg(test)]
+mod world_numbers;
 
 use journal::journal_at;
+use played::{asked_shape, play_world};
 use served::{asked_serve, end_served, serve_until_told};
 
 fn main(rt: HostRuntime) -> ExitCode {
@@ -61,6 +65,19 @@ fn main(rt: HostRuntime) -> ExitCode {
         },
         Ok(Some(Asked::End { settings, at_once })) => end_served(&rt, settings, at_once),
         Ok(Some(Asked::Export { journal, format })) => export_journal(&rt, journal, format),
+        Ok(
+            Some(
+                Asked::World {
+                    seed,
+                    steps,
+                    clients,
+                    ports,
+                },
+            ),
+        ) => match asked_shape(&rt, seed, steps, clients, ports) {
+            Ok(shape) => play_world(&rt, &shape),
+            Err(status) => status,
+        },
         Ok(Some(Asked::Demo)) => demonstrate(&rt, rt.alloc(), &mut rt.stderr()),
         Ok(None) => refused(
             &rt,

@@ -8,7 +8,7 @@ ghost use Rattle.gateway_command.specs.Command as spec;
 ghost use Rattle.gateway_command.specs.Seen.{asked_seen};
 
 use crate::asking::Asked;
-use crate::help::{AUDIT, DEMO, END, EXPORT, JOURNAL, RUN, SERVE};
+use crate::help::{AUDIT, DEMO, END, EXPORT, JOURNAL, RUN, SERVE, WORLD};
 use crate::version::version;
 use clap::error::ErrorKind;
 use clap::{Arg, ArgAction, ArgMatches, Command, Error};
@@ -65,6 +65,7 @@ fn asked_by<'a>(name: &str, found: &ArgMatches<'a>) -> Option<Asked<'a>>
         "end" => end_asked(found),
         "demo" => Some(Asked::Demo),
         "export" => export_asked(found),
+        "world" => world_asked(found),
         _ => None,
     }
 }
@@ -182,6 +183,31 @@ fn export_asked<'a>(found: &ArgMatches<'a>) -> Option<Asked<'a>>
         Some(journal) => Some(Asked::Export {
             journal,
             format: value_of(found, "format"),
+        }),
+        None => None,
+    }
+}
+
+/// What `world` asks for.
+fn world_asked<'a>(found: &ArgMatches<'a>) -> Option<Asked<'a>>
+    ensures { option_map asked_seen result ≡ spec.world_asked (rows_of (found_of found.now)) }
+{
+    match value_of(found, "seed") {
+        Some(seed) => steps_asked(found, seed),
+        None => None,
+    }
+}
+
+/// The same with this seed.
+fn steps_asked<'a>(found: &ArgMatches<'a>, seed: &'a str) -> Option<Asked<'a>>
+    ensures { option_map asked_seen result ≡ spec.steps_asked seed.now (rows_of (found_of found.now)) }
+{
+    match value_of(found, "steps") {
+        Some(steps) => Some(Asked::World {
+            seed,
+            steps,
+            clients: value_of(found, "clients"),
+            ports: value_of(found, "ports"),
         }),
         None => None,
     }
@@ -376,6 +402,36 @@ fn demo<'a>(alloc: Global) -> Command<'a>
         .after_help(DEMO)
 }
 
+/// `world --seed N --steps K [--clients C] [--ports P]`.
+fn world<'a>(alloc: Global) -> Result<Command<'a>, AllocError>
+    ensures app { IfOk result (λ command. app_of command ≡ spec.world) }
+    ensures own { IfOk result (λ command. (fields_of command).has_globals ≡ false) }
+{
+    let alone = Command::new(alloc, "world")
+        .about(
+            "Plays a closed world of clients, gateway and markets by a seed, and judges what came of it",
+        )
+        .after_help(WORLD);
+    let seed = required(alloc, "seed", "N", "The seed");
+    let with_seed = with_option(alone, seed)?;
+    let steps = required(alloc, "steps", "K", "How many steps are drawn: 1 to 10000");
+    let with_steps = with_option(with_seed, steps)?;
+    let clients = option(
+        alloc,
+        "clients",
+        "C",
+        "How many clients there are: 1 to 64, or 4",
+    );
+    let with_clients = with_option(with_steps, clients)?;
+    let ports = option(
+        alloc,
+        "ports",
+        "P",
+        "How many ports there are: 1 to 16, or 2",
+    );
+    with_option(with_clients, ports)
+}
+
 /// A command with a subcommand more.
 fn with_command<'a>(command: Command<'a>, more: Command<'a>) -> Result<Command<'a>, AllocError>
     requires own { (fields_of more).has_globals ≡ false }
@@ -463,6 +519,19 @@ fn with_export<'a>(alloc: Global, command: Command<'a>) -> Result<Command<'a>, A
     }
 }
 
+/// A command with `world` more.
+fn with_world<'a>(alloc: Global, command: Command<'a>) -> Result<Command<'a>, AllocError>
+    ensures { IfOk result (λ wider. app_of wider ≡ spec.with_command (app_of command.entry) spec.world) }
+{
+    match world(alloc) {
+        Ok(world) => with_command(command, world),
+        Err(error) => {
+            drop(command);
+            Err(error)
+        }
+    }
+}
+
 /// `gateway` with its subcommands.
 fn gateway<'a>(alloc: Global) -> Result<Command<'a>, AllocError>
     ensures { IfOk result (λ command. app_of command ≡ spec.gateway) }
@@ -478,5 +547,6 @@ fn gateway<'a>(alloc: Global) -> Result<Command<'a>, AllocError>
     let with_demo = with_command(with_end, demo(alloc))?;
     let with_audit = with_audit(alloc, with_demo)?;
     let with_export = with_export(alloc, with_audit)?;
-    with_journal(alloc, with_export)
+    let with_journal = with_journal(alloc, with_export)?;
+    with_world(alloc, with_journal)
 }

@@ -121,3 +121,15 @@ Two clients send three orders each, a simulated market takes and fills them, all
 
 The status is 0 where all orders agree, 1 where one doesn't, and where a client waits ten seconds for an answer, with
 demo: not finished on standard error.";
+
+/// Of `gateway world`.
+pub(crate) const WORLD: &str = "\
+Clients that a seed draws send orders, replaces and cancels; a market for each port answers by choices that it draws;
+links are lost with what is on their way, and come again; all in memory. In the end all is delivered, and each order
+that was accepted is judged: what its client read of it, what its market said, and what its market's book has:
+
+  $ gateway world --seed 7 --steps 300
+  steps 300 events 168 orders 22 trades 8 lost 14 faults 0 agree 22
+
+The same seed draws the same steps. The status is 0 where no message of the market was a fault and all orders agree, 1
+where not, and where memory runs out, 2 for a number that isn't one, or is out of its range.";

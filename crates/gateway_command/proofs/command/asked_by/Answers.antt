@@ -31,6 +31,10 @@ pub returns-in-export : goal.returns-in-export
 unfolding asking_of
 returns-in-export c = search rules
 
+pub returns-in-world : goal.returns-in-world
+unfolding asking_of
+returns-in-world c = search rules
+
 pub returns-in_default : goal.returns-in_default
 unfolding asking_of
 returns-in_default c = search rules

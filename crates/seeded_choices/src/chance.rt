@@ -1,4 +1,6 @@
-//! Choices by a seed.
+//! A row of choices.
+
+ghost use Rattle.std.specs.Prelude.{◌≤◌, ◌-◌};
 
 use rand_core::Rng;
 use rand_pcg::Pcg32;
@@ -17,12 +19,24 @@ impl Chance {
         }
     }
 
-    /// A number below this one; 0 where it is 0.
-    pub fn below(&mut self, limit: usize) -> usize {
+    /// One of so many places; 0 where there is none.
+    pub fn below(&mut self, limit: usize) -> usize
+        ensures { result ≤ limit - 1 }
+    {
         if limit == 0 {
             return 0;
         }
         self.words.next_u32() as usize % limit
+    }
+
+    /// A number below this one; 0 where it is 0.
+    pub fn number_below(&mut self, limit: u32) -> u32
+        ensures { result ≤ limit - 1 }
+    {
+        if limit == 0 {
+            return 0;
+        }
+        self.words.next_u32() % limit
     }
 
     /// Whether this happens, which it does once in so many times.
