@@ -6,15 +6,25 @@ ghost use Rattle.gate_events.specs.Seen.{link_out_seen};
 use link_io::{Event, Gate, LinkOut, ShortList};
 use std::alloc::{AllocError, Global};
 use std::sync::Wait;
+use std::sync::atomic::{AtomicU32, AtomicU64, Ordering};
 
-/// A gate that keeps the events that were put and the lists that were taken. It gives each event back where it is full.
+/// A gate that keeps the events that were put, the lists that were taken, and what it was told of its link. It gives
+/// each event back where it is full, and else so often before it takes it.
 pub struct Kept {
     alloc: Global,
     pub events: Vec<Event>,
     pub is_full: bool,
+    /// How often it gives each event back, and how often yet the next one.
+    pub gives_back: u32,
+    pub left: u32,
     /// The lists that lie there, the last one first.
     pub lists: Vec<ShortList<LinkOut>>,
     pub given: Vec<ShortList<LinkOut>>,
+    /// The last count of skipped bytes that it was told, and how often it was told one.
+    pub skipped: AtomicU64,
+    pub often: AtomicU32,
+    /// How many bytes of frames it was told.
+    pub sent: AtomicU64,
 }
 
 /// Written by hand, so that one call drops all.
@@ -24,14 +34,19 @@ impl Drop for Kept {
             alloc: _,
             events: _,
             is_full: _,
+            gives_back: _,
+            left: _,
             lists: _,
             given: _,
+            skipped: _,
+            often: _,
+            sent: _,
         } = self;
     }
 }
 
 impl Kept {
-    /// Nothing was put, and nothing lies there.
+    /// Nothing was put, and nothing lies there. It takes each event at once.
     pub fn new(alloc: Global) -> Kept
         ensures given { result.given.items ≡ [] }
     {
@@ -39,8 +54,13 @@ impl Kept {
             alloc,
             events: Vec::new(alloc),
             is_full: false,
+            gives_back: 0,
+            left: 0,
             lists: Vec::new(alloc),
             given: Vec::new(alloc),
+            skipped: AtomicU64::new(0),
+            often: AtomicU32::new(0),
+            sent: AtomicU64::new(0),
         }
     }
 
@@ -79,6 +99,11 @@ impl Gate for Kept {
         if self.is_full {
             return Err(event);
         }
+        if self.left > 0 {
+            self.left -= 1;
+            return Err(event);
+        }
+        self.left = self.gives_back;
         match self.events.push(event) {
             Ok(()) => Ok(()),
             Err(refused) => Err(refused.value),
@@ -98,6 +123,15 @@ impl Gate for Kept {
 
     fn turn<R: Wait>(&mut self, _rt: &R, _alloc: Global) -> Result<u32, AllocError> {
         Ok(0)
+    }
+
+    fn tell_skipped(&self, count: u64) {
+        self.skipped.store(count, Ordering::SeqCst);
+        self.often.fetch_add(1, Ordering::SeqCst);
+    }
+
+    fn tell_sent(&self, frames: &[u8]) {
+        self.sent.fetch_add(frames.len() as u64, Ordering::SeqCst);
     }
 }
 

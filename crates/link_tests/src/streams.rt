@@ -1,6 +1,7 @@
 //! Readers and writers that fail.
 
 use link_io::Prompt;
+use std::alloc::Global;
 use std::io::{self, ErrorKind, Read, Write};
 
 /// A reader that gives so many bytes a read of what it has, and fails at its read of this number, from 0.
@@ -52,6 +53,17 @@ pub struct Torn {
     pub taken: Vec<u8>,
     pub size: usize,
     pub writes_left: usize,
+}
+
+impl Torn {
+    /// One that has taken nothing.
+    pub fn new(alloc: Global, size: usize, writes_left: usize) -> Torn {
+        Torn {
+            taken: Vec::new(alloc),
+            size,
+            writes_left,
+        }
+    }
 }
 
 impl Write for Torn {
