@@ -79,10 +79,36 @@ impl Kept {
         list.push(self.alloc, LinkOut::Close { link })?;
         Ok(self.lists.push(list)?)
     }
+
+    /// The same bytes for a link, and behind them for link 6, which is closed.
+    fn lay_beside(&mut self, link: u64, bytes: &[u8]) -> Result<(), AllocError>
+        ensures given { self.new.given ≡ self.old.given }
+    {
+        let mut list = list_of(self.alloc, link, bytes)?;
+        let bytes = Vec::from_slice(self.alloc, bytes)?;
+        list.push(self.alloc, LinkOut::Write { link: 6, bytes })?;
+        list.push(self.alloc, LinkOut::Close { link: 6 })?;
+        Ok(self.lists.push(list)?)
+    }
+}
+
+/// Two lists up to a `Close` for a link, with bytes and a `Close` for link 6 between, and one for another behind it.
+pub fn lay_up_to_close(
+    kept: &mut Kept,
+    link: u64,
+    first: &[u8],
+    second: &[u8],
+    behind: u64,
+) -> Result<(), AllocError>
+    ensures given { kept.new.given ≡ kept.old.given }
+{
+    kept.lay(behind, first)?;
+    kept.lay_last(link, second)?;
+    kept.lay_beside(link, first)
 }
 
 /// A list of these bytes for a link.
-pub fn list_of(alloc: Global, link: u64, bytes: &[u8]) -> Result<ShortList<LinkOut>, AllocError> {
+fn list_of(alloc: Global, link: u64, bytes: &[u8]) -> Result<ShortList<LinkOut>, AllocError> {
     let bytes = Vec::from_slice(alloc, bytes)?;
     Ok(ShortList::of(LinkOut::Write { link, bytes }))
 }

@@ -4,7 +4,7 @@ ghost use Rattle.std.specs.Prelude.{◌≡◌, [], IfOk};
 
 use super::gates::Kept;
 use super::lines::Sleeping;
-use super::streams::Torn;
+use super::streams::{Torn, holds};
 use gate_workers::{Pen, WriterEnd};
 use link_io::LinkFault;
 use std::alloc::{AllocError, Global};
@@ -52,8 +52,8 @@ pub fn wrote<R: Abort>(
     let Some((ended, stream)) = written else {
         return Err(Fail::new("no link"));
     };
-    assert!(rt; ended == end);
-    assert!(rt; stream.taken.as_slice() == bytes);
+    holds(rt, ended == end);
+    holds(rt, stream.taken.as_slice() == bytes);
     Ok(())
 }
 
@@ -78,8 +78,8 @@ fn what_one_began_another_goes_on_with(rt: HostRuntime) -> Result<(), Fail> {
     let Ok(gate) = pen.into_gate() else {
         return Err(Fail::new("a link is open"));
     };
-    assert!(rt; gate.lists.is_empty());
-    assert!(rt; gate.given.len() == 4);
+    holds(&rt, gate.lists.is_empty());
+    holds(&rt, gate.given.len() == 4);
     Ok(())
 }
 
@@ -99,11 +99,11 @@ fn write_two_links<R: Wait + Abort + time::Clock>(
 
 /// Nothing is written before link 1 is open, a prompt write leaves a rest then, and link 2 can't be opened.
 fn opens_the_first<R: Wait + Abort>(rt: &R, alloc: Global, pen: &Pen<Torn, Kept>) {
-    assert!(rt; !pen.write(alloc));
-    assert!(rt; !opens(rt, alloc, pen, 2, 4));
-    assert!(rt; opens(rt, alloc, pen, 1, 4));
-    assert!(rt; !opens(rt, alloc, pen, 2, 4));
-    assert!(rt; !pen.write(alloc));
+    holds(rt, !pen.write(alloc));
+    holds(rt, !opens(rt, alloc, pen, 2, 4));
+    holds(rt, opens(rt, alloc, pen, 1, 4));
+    holds(rt, !opens(rt, alloc, pen, 2, 4));
+    holds(rt, !pen.write(alloc));
 }
 
 /// No link is open until link 2 is opened, and then a prompt write leaves nothing.
@@ -114,9 +114,9 @@ fn opens_the_second<R: Wait + Abort + time::Clock>(
     stop: &AtomicBool,
 ) {
     let none = pen.write_all(rt, alloc, &mut Sleeping::new(rt, None), stop);
-    assert!(rt; none.is_none());
-    assert!(rt; opens(rt, alloc, pen, 2, 100));
-    assert!(rt; pen.write(alloc));
+    holds(rt, none.is_none());
+    holds(rt, opens(rt, alloc, pen, 2, 100));
+    holds(rt, pen.write(alloc));
 }
 
 #[test]
@@ -124,7 +124,7 @@ fn what_links_that_are_over_are_told_is_let_go(rt: HostRuntime) -> Result<(), Fa
     let alloc = rt.alloc();
     let pen = Pen::new(gate_of_two_links(alloc)?);
     pen.let_go(&rt, alloc);
-    assert!(rt; opens(&rt, alloc, &pen, 1, 100));
+    holds(&rt, opens(&rt, alloc, &pen, 1, 100));
     pen.let_go(&rt, alloc);
     let Err(pen) = pen.into_gate() else {
         return Err(Fail::new("no link is open"));
@@ -141,7 +141,7 @@ fn write_and_let_go<R: Wait + Abort + time::Clock>(
     let stop = AtomicBool::new(false);
     written(rt, alloc, pen, &stop, WriterEnd::Closed, BOTH)?;
     pen.let_go(rt, alloc);
-    assert!(rt; opens(rt, alloc, pen, 2, 100));
+    holds(rt, opens(rt, alloc, pen, 2, 100));
     stop.store(true, Ordering::SeqCst);
     written(rt, alloc, pen, &stop, WriterEnd::Stopped, b"")
 }
@@ -162,7 +162,7 @@ fn gate_of_many(alloc: Global) -> Result<Kept, AllocError>
 fn two_threads_write_a_link_together(rt: HostRuntime) -> Result<(), Fail> {
     let alloc = rt.alloc();
     let pen = Pen::new(gate_of_many(alloc)?);
-    assert!(rt; opens(&rt, alloc, &pen, 1, 7));
+    holds(&rt, opens(&rt, alloc, &pen, 1, 7));
     let stop = AtomicBool::new(false);
     let shared = &pen;
     let flag = &stop;
@@ -192,10 +192,10 @@ fn written_in_turns<R: Wait + Abort + time::Clock>(
     let Some((ended, stream)) = written else {
         return Err(Fail::new("no link"));
     };
-    assert!(rt; ended == Ok(WriterEnd::Stopped));
-    assert!(rt; stream.taken.len() == 5_500);
+    holds(rt, ended == Ok(WriterEnd::Stopped));
+    holds(rt, stream.taken.len() == 5_500);
     for pair in stream.taken.chunks(11) {
-        assert!(rt; pair == BOTH.as_slice());
+        holds(rt, pair == BOTH.as_slice());
     }
     Ok(())
 }

@@ -4,6 +4,7 @@ ghost use Rattle.std.specs.Prelude.{◌≡◌, ◌≤◌, []};
 
 use super::gates::Kept;
 use super::lines::{Counted, Links, Seen, Sleeping, Waiting};
+use super::streams::holds;
 use gate_events::{ClientNumber, Event, LinkOut, PortNumber, Recipient};
 use gate_serving::{Line, PenWorker, Ticks, Worker, WriterEnd, serve};
 use gate_workers::Pen;
@@ -115,21 +116,22 @@ fn served<'p, 'a, R: Threads + Wait + time::Clock + Sync>(
     }
 }
 
-/// The line of a client of this number, whose one link brings these bytes.
-fn client_line<'p, 'a, R: time::Clock>(
+/// Puts the line of a client of this number behind others; its one link brings these bytes.
+fn push_client<'p, 'a, R: time::Clock>(
     rt: &'a R,
     alloc: Global,
     seen: &'a Seen,
+    lines: &mut Vec<TestLine<'p, 'a, R>>,
     number: u16,
     stream: &'a [u8],
     reader: Waiting<'a, R>,
     pen: &'p TestPen<'a, R>,
-) -> TestLine<'p, 'a, R>
+) -> Result<(), AllocError>
     requires { 1 ≤ number }
 {
     let links = links_of(alloc, stream, 1, 0, seen);
     let client = Recipient::Client(ClientNumber::new(number));
-    line_of(rt, client, links, reader, pen)
+    Ok(lines.push(line_of(rt, client, links, reader, pen))?)
 }
 
 /// The pen of a client that is told a heartbeat, which sets `is_taken` as it is taken.
@@ -194,8 +196,8 @@ fn a_client_waits_for_what_it_is_told_itself(rt: HostRuntime) -> Result<(), Fail
 
 /// Nobody waited in vain, and both clients' bytes went through.
 fn look_at_flags<R: Abort>(rt: &R, seen: &Seen) {
-    assert!(rt; !seen.is_failed.load(Ordering::SeqCst));
-    assert!(rt; seen.bytes.load(Ordering::SeqCst) == 52);
+    holds(rt, !seen.is_failed.load(Ordering::SeqCst));
+    holds(rt, seen.bytes.load(Ordering::SeqCst) == 52);
 }
 
 /// Two clients, each of which is told a heartbeat; the link of the first brings these bytes, which are so many events with
@@ -230,11 +232,21 @@ fn serve_both<'p, 'a, R: Threads + Wait + time::Clock + Abort + Sync>(
     } else {
         &seen.second
     };
+    let mut lines = Vec::new(alloc);
     let reader = reading_gate(rt, alloc, seen, waits.first, goes_on);
-    let one = client_line(rt, alloc, seen, 1, stream, reader, one);
+    push_client(rt, alloc, seen, &mut lines, 1, stream, reader, one)?;
     let reader = reading_gate(rt, alloc, seen, waits.second, &seen.first);
-    let two = client_line(rt, alloc, seen, 2, HEARTBEAT.as_slice(), reader, two);
-    let lines = served(rt, alloc, vec![in alloc; one, two]?)?;
+    push_client(
+        rt,
+        alloc,
+        seen,
+        &mut lines,
+        2,
+        HEARTBEAT.as_slice(),
+        reader,
+        two,
+    )?;
+    let lines = served(rt, alloc, lines)?;
     look_at_both(rt, lines.as_slice(), events)
 }
 
@@ -243,13 +255,13 @@ fn gave_one_list<'a, R: time::Clock + Abort>(rt: &R, pen: TestPen<'a, R>) -> Res
     let Ok(gate) = pen.into_gate() else {
         return Err(Fail::new("a link is open"));
     };
-    assert!(rt; gate.kept.given.len() == 1);
+    holds(rt, gate.kept.given.len() == 1);
     Ok(())
 }
 
 /// So many events were put of a line.
 fn kept<'p, 'a, R: Abort + time::Clock>(rt: &'a R, line: &TestLine<'p, 'a, R>, events: usize) {
-    assert!(rt; line.reader.gate.kept.events.len() == events);
+    holds(rt, line.reader.gate.kept.events.len() == events);
 }
 
 /// Each client's events went through: so many of the first, and three of the second.
@@ -272,8 +284,11 @@ fn look_at_both<'p, 'a, R: Abort + time::Clock>(
 fn is_of<'p, 'a, R: Abort + time::Clock>(rt: &'a R, line: &TestLine<'p, 'a, R>, client: u16)
     requires { 1 ≤ client }
 {
-    assert!(rt; line.peer == Recipient::Client(ClientNumber::new(client)));
-    assert!(rt; line.fault.is_none());
+    holds(
+        rt,
+        line.peer == Recipient::Client(ClientNumber::new(client)),
+    );
+    holds(rt, line.fault.is_none());
 }
 
 /// While a client's link is served time passes: its put waits until ticks went round three times.
@@ -281,7 +296,7 @@ fn is_of<'p, 'a, R: Abort + time::Clock>(rt: &'a R, line: &TestLine<'p, 'a, R>, 
 fn time_passes_while_a_link_is_served(rt: HostRuntime) -> Result<(), Fail> {
     let seen = Seen::new();
     passes_meanwhile(&rt, rt.alloc(), &seen)?;
-    assert!(rt; !seen.is_failed.load(Ordering::SeqCst));
+    holds(&rt, !seen.is_failed.load(Ordering::SeqCst));
     Ok(())
 }
 
@@ -316,9 +331,18 @@ fn serve_with_ticks<'p, 'a, R: Threads + Wait + time::Clock + Abort + Sync>(
     pen: &'p TestPen<'a, R>,
 ) -> Result<(), Fail> {
     let reader = reading_gate(rt, alloc, seen, 1, &seen.second);
-    let line = client_line(rt, alloc, seen, 1, HEARTBEAT.as_slice(), reader, pen);
-    let ticks = three_rounds(rt, alloc, seen);
-    match serve(rt, alloc, vec![in alloc; line]?, ticks) {
+    let mut lines = Vec::new(alloc);
+    push_client(
+        rt,
+        alloc,
+        seen,
+        &mut lines,
+        1,
+        HEARTBEAT.as_slice(),
+        reader,
+        pen,
+    )?;
+    match serve(rt, alloc, lines, three_rounds(rt, alloc, seen)) {
         Ok((lines, ticks)) => look_at_ticks(rt, lines.as_slice(), ticks),
         Err(_) => Err(Fail::new("not served")),
     }
@@ -333,7 +357,7 @@ fn look_at_ticks<'p, 'a, R: Abort + time::Clock>(
     let Some(ticks) = ticks else {
         return Err(Fail::new("no ticks came back"));
     };
-    assert!(rt; ticks.gate.kept.events.len() == 9);
+    holds(rt, ticks.gate.kept.events.len() == 9);
     let [line] = lines else {
         return Err(Fail::new("not one line"));
     };
@@ -365,7 +389,7 @@ fn three_links<'a, R: Threads + Wait + time::Clock + Abort + Sync>(
 ) -> Result<(), Fail> {
     let pen = closing_pen(rt, alloc, seen, 2, 0)?;
     serve_three(rt, alloc, seen, &pen)?;
-    assert!(rt; seen.woken.load(Ordering::SeqCst) == 3);
+    holds(rt, seen.woken.load(Ordering::SeqCst) == 3);
     Ok(())
 }
 
@@ -378,8 +402,9 @@ fn serve_three<'p, 'a, R: Threads + Wait + time::Clock + Abort + Sync>(
     let reader = reading_gate(rt, alloc, seen, 0, &seen.never);
     let links = links_of(alloc, b"\x00\x01H\x00\x01H".as_slice(), 3, 2, seen);
     let port = Recipient::Port(PortNumber::new(1));
-    let line = line_of(rt, port, links, reader, pen);
-    let lines = served(rt, alloc, vec![in alloc; line]?)?;
+    let mut lines = Vec::new(alloc);
+    lines.push(line_of(rt, port, links, reader, pen))?;
+    let lines = served(rt, alloc, lines)?;
     look_at_three(rt, alloc, lines.as_slice())
 }
 
@@ -392,11 +417,11 @@ fn look_at_three<'p, 'a, R: Abort + time::Clock>(
     let [line] = lines else {
         return Err(Fail::new("not one line"));
     };
-    assert!(rt; line.fault == Some(LinkFault::ReadFailed));
+    holds(rt, line.fault == Some(LinkFault::ReadFailed));
     kept(rt, line, 12);
-    assert!(rt; line.opener.ends.len() == 3);
+    holds(rt, line.opener.ends.len() == 3);
     for end in &line.opener.ends {
-        assert!(rt; end.reader.is_ok() && end.fault().is_none());
+        holds(rt, end.reader.is_ok() && end.fault().is_none());
     }
     are_three_up(rt, alloc, line.reader.gate.kept.events.as_slice())
 }
@@ -404,7 +429,7 @@ fn look_at_three<'p, 'a, R: Abort + time::Clock>(
 /// Links 1, 2 and 3 were up.
 fn are_three_up<R: Abort>(rt: &R, alloc: Global, events: &[Event]) -> Result<(), Fail> {
     let ups = links_up(alloc, events)?;
-    assert!(rt; matches!(ups.as_slice(), [1, 2, 3]));
+    holds(rt, matches!(ups.as_slice(), [1, 2, 3]));
     Ok(())
 }
 
@@ -451,9 +476,9 @@ fn what_a_link_that_is_over_is_told_is_let_go(rt: HostRuntime) -> Result<(), Fai
 
 /// The link was shut down once, nothing was written onto it, and nobody waited in vain.
 fn is_shut_unwritten<R: Abort>(rt: &R, seen: &Seen) {
-    assert!(rt; seen.often.load(Ordering::SeqCst) == 1);
-    assert!(rt; seen.bytes.load(Ordering::SeqCst) == 0);
-    assert!(rt; !seen.is_failed.load(Ordering::SeqCst));
+    holds(rt, seen.often.load(Ordering::SeqCst) == 1);
+    holds(rt, seen.bytes.load(Ordering::SeqCst) == 0);
+    holds(rt, !seen.is_failed.load(Ordering::SeqCst));
 }
 
 /// Serves a client's one link, which is closed, and is told so many heartbeats more, through a gate whose put of this
@@ -477,8 +502,18 @@ fn serve_one<'p, 'a, R: Threads + Wait + time::Clock + Abort + Sync>(
     pen: &'p TestPen<'a, R>,
 ) -> Result<(), Fail> {
     let reader = reading_gate(rt, alloc, seen, waits_at, &seen.first);
-    let line = client_line(rt, alloc, seen, 1, HEARTBEAT.as_slice(), reader, pen);
-    let lines = served(rt, alloc, vec![in alloc; line]?)?;
+    let mut lines = Vec::new(alloc);
+    push_client(
+        rt,
+        alloc,
+        seen,
+        &mut lines,
+        1,
+        HEARTBEAT.as_slice(),
+        reader,
+        pen,
+    )?;
+    let lines = served(rt, alloc, lines)?;
     look_at_closed(rt, lines.as_slice())
 }
 
@@ -493,6 +528,6 @@ fn look_at_closed<'p, 'a, R: Abort + time::Clock>(
     let [end] = line.opener.ends.as_slice() else {
         return Err(Fail::new("not one end"));
     };
-    assert!(rt; end.writer == Ok(WriterEnd::Closed));
+    holds(rt, end.writer == Ok(WriterEnd::Closed));
     Ok(())
 }

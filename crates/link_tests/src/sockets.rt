@@ -1,5 +1,6 @@
 //! Links over loopback.
 
+use super::streams::holds;
 use link_sockets::{Acceptor, Closer, Connector, LinkFault, Opened, Opener, Prompt};
 use std::alloc::Global;
 use std::io::{Read, Write};
@@ -19,8 +20,8 @@ fn shown<R: Clock>(rt: &R) -> Result<u128, Fail> {
 
 /// So many milliseconds lie between these two.
 fn is_within<R: Abort>(rt: &R, waited: u128, least: u128, below: u128) {
-    assert!(rt; waited >= least);
-    assert!(rt; waited < below);
+    holds(rt, waited >= least);
+    holds(rt, waited < below);
 }
 
 /// What a link is lent for, with its peer.
@@ -38,14 +39,23 @@ where
     R: Net<Listener = TcpListener, Stream = TcpStream> + Clock + Threads + Wait + Abort,
 {
     let is_over = AtomicBool::new(false);
-    let listener = TcpListener::bind(rt, "127.0.0.1:0")?;
-    let peer = TcpStream::connect(rt, listener.local_addr()?)?;
+    let (listener, peer) = connected(rt)?;
     let mut acceptor = Acceptor::of_listener(rt, listener, 1, &is_over);
     let Some(Ok(link)) = acceptor.open() else {
         return Err(Fail::new("not opened"));
     };
     opens(rt, &mut acceptor, None);
     look(rt, alloc, link, peer, &is_over, borrower)
+}
+
+/// A listener on loopback, and a peer that has connected to it.
+fn connected<R>(rt: &R) -> Result<(TcpListener, TcpStream), Fail>
+where
+    R: Net<Listener = TcpListener, Stream = TcpStream>,
+{
+    let listener = TcpListener::bind(rt, "127.0.0.1:0")?;
+    let peer = TcpStream::connect(rt, listener.local_addr()?)?;
+    Ok((listener, peer))
 }
 
 fn look<R, A, W, C>(
@@ -147,7 +157,7 @@ fn read_the_rest<S: Read + Drop>(mut stream: S, is_read: &AtomicBool) {
 fn hears<R: Abort, P: Read>(rt: &R, alloc: Global, peer: &mut P) -> Result<(), Fail> {
     let mut words = Vec::new(alloc);
     peer.read_to_end(&mut words)?;
-    assert!(rt; words.as_slice() == b"Logout".as_slice());
+    holds(rt, words.as_slice() == b"Logout".as_slice());
     Ok(())
 }
 
@@ -172,7 +182,7 @@ fn closes_at_once<R: Clock + Abort, A: Read, W, C: Closer>(
 /// A stream is at its end.
 fn reads_nothing<R: Abort, A: Read>(rt: &R, reader: &mut A) -> Result<(), Fail> {
     let mut some = [0; 100];
-    assert!(rt; reader.read(&mut some)? == 0);
+    holds(rt, reader.read(&mut some)? == 0);
     Ok(())
 }
 
@@ -228,17 +238,31 @@ where
         Some(Err(fault)) => Some(Err(fault)),
         None => None,
     };
-    assert!(rt; opened == expected);
+    holds(rt, opened == expected);
 }
 
 #[test]
 fn an_accept_ends_when_its_line_does(rt: HostRuntime) -> Result<(), Fail> {
     let is_over = AtomicBool::new(false);
     let mut acceptor = Acceptor::new(&rt, "127.0.0.1:0", 3, &is_over);
-    let before = shown(&rt)?;
-    open_till_over(&rt, &mut acceptor, &is_over)?;
-    is_within(&rt, shown(&rt)?.saturating_sub(before), 100, 5_000);
-    opens(&rt, &mut acceptor, None);
+    ends_with_its_line(&rt, &mut acceptor, &is_over)
+}
+
+/// An opener waits for its flag, and no longer, and has ended then.
+fn ends_with_its_line<R: Threads + Wait + Clock + Sync + Abort, O: Opener>(
+    rt: &R,
+    opener: &mut O,
+    is_over: &AtomicBool,
+) -> Result<(), Fail>
+where
+    O::Reader: Drop,
+    O::Writer: Drop,
+    O::Closer: Drop,
+{
+    let before = shown(rt)?;
+    open_till_over(rt, opener, is_over)?;
+    is_within(rt, shown(rt)?.saturating_sub(before), 100, 5_000);
+    opens(rt, opener, None);
     Ok(())
 }
 
@@ -274,11 +298,27 @@ fn a_port_is_connected_again_after_a_second(rt: HostRuntime) -> Result<(), Fail>
     let mut connector = Connector::new(&rt, address.as_str(), 3, &is_over);
     let second = connects_twice(&rt, &mut connector)?;
     drop(listener);
-    opens(&rt, &mut connector, Some(Err(LinkFault::ReadFailed)));
-    is_within(&rt, shown(&rt)?.saturating_sub(second), 900, u128::MAX);
-    opens(&rt, &mut connector, Some(Err(LinkFault::ReadFailed)));
+    is_refused_twice(&rt, &mut connector, second, &is_over)
+}
+
+/// Nobody listens any more: a port's line can't open its next link, a second after this moment, and tries again until it
+/// is over.
+fn is_refused_twice<R: Clock + Abort, O: Opener>(
+    rt: &R,
+    connector: &mut O,
+    second: u128,
+    is_over: &AtomicBool,
+) -> Result<(), Fail>
+where
+    O::Reader: Drop,
+    O::Writer: Drop,
+    O::Closer: Drop,
+{
+    opens(rt, connector, Some(Err(LinkFault::ReadFailed)));
+    is_within(rt, shown(rt)?.saturating_sub(second), 900, u128::MAX);
+    opens(rt, connector, Some(Err(LinkFault::ReadFailed)));
     is_over.store(true, Ordering::SeqCst);
-    opens(&rt, &mut connector, None);
+    opens(rt, connector, None);
     Ok(())
 }
 

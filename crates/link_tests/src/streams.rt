@@ -3,6 +3,12 @@
 use link_io::Prompt;
 use std::alloc::Global;
 use std::io::{self, ErrorKind, Read, Write};
+use std::process::Abort;
+
+/// This is so. It has the one assertion of most of these tests.
+pub fn holds<R: Abort>(rt: &R, is_so: bool) {
+    assert!(rt; is_so);
+}
 
 /// A reader that gives so many bytes a read of what it has, and fails at its read of this number, from 0.
 #[derive(Drop)]

@@ -2,7 +2,7 @@
 
 use super::gates::Kept;
 use super::lines::Sleeping;
-use super::streams::{Pieces, Torn};
+use super::streams::{Pieces, Torn, holds};
 use gate_events::ClientNumber;
 use gate_workers::client_reader;
 use link_io::{BatchWriter, ClientReader};
@@ -45,8 +45,8 @@ fn read_skips<R: Wait + time::Clock>(rt: &R, alloc: Global, size: usize, gate: &
 
 #[test]
 fn skipped_bytes_are_told_as_they_double_and_at_the_end(rt: HostRuntime) -> Result<(), Fail> {
-    assert!(rt; counts_told(&rt, rt.alloc(), 4_096) == (7, 1));
-    assert!(rt; counts_told(&rt, rt.alloc(), 1) == (7, 4));
+    holds(&rt, counts_told(&rt, rt.alloc(), 4_096) == (7, 1));
+    holds(&rt, counts_told(&rt, rt.alloc(), 1) == (7, 4));
     Ok(())
 }
 
@@ -60,9 +60,9 @@ fn a_reader_counts_what_it_skipped(rt: HostRuntime) -> Result<(), Fail> {
         size: 31,
         reads_left: 100,
     };
-    assert!(rt; reader.skipped() == 0);
-    assert!(rt; reader.step(alloc, &mut stream, &mut gate, 0).is_ok());
-    assert!(rt; reader.skipped() == 5);
+    holds(&rt, reader.skipped() == 0);
+    holds(&rt, reader.step(alloc, &mut stream, &mut gate, 0).is_ok());
+    holds(&rt, reader.skipped() == 5);
     Ok(())
 }
 
@@ -87,8 +87,8 @@ fn lay_both(gate: &mut Kept, first: &[u8], then: &[u8]) -> Result<(), AllocError
 fn what_a_session_refuses_is_told_as_it_is_written(rt: HostRuntime) -> Result<(), Fail> {
     let alloc = rt.alloc();
     for size in [1, 30, 100] {
-        assert!(rt; bytes_told(alloc, REJECT, HEARTBEAT, size)? == 52);
-        assert!(rt; bytes_told(alloc, HEARTBEAT, HEARTBEAT, size)? == 0);
+        holds(&rt, bytes_told(alloc, REJECT, HEARTBEAT, size)? == 52);
+        holds(&rt, bytes_told(alloc, HEARTBEAT, HEARTBEAT, size)? == 0);
     }
     are_not_told(&rt, alloc)
 }
@@ -99,7 +99,7 @@ fn are_not_told<R: Abort>(rt: &R, alloc: Global) -> Result<(), Fail> {
     let mut writer = BatchWriter::new(alloc, 1, 1, 100);
     write_beside(rt, alloc, &mut writer, &mut gate)?;
     write_nothing(rt, alloc, &mut writer, &mut gate)?;
-    assert!(rt; gate.sent.load(Ordering::SeqCst) == 0);
+    holds(rt, gate.sent.load(Ordering::SeqCst) == 0);
     Ok(())
 }
 
@@ -112,7 +112,10 @@ fn write_beside<R: Abort>(
 ) -> Result<(), AllocError> {
     gate.lay(1, HEARTBEAT)?;
     gate.lay(2, REJECT)?;
-    assert!(rt; writer.step_once(alloc, &mut Torn::new(alloc, 100, 100), gate));
+    holds(
+        rt,
+        writer.step_once(alloc, &mut Torn::new(alloc, 100, 100), gate),
+    );
     Ok(())
 }
 
@@ -124,6 +127,9 @@ fn write_nothing<R: Abort>(
     gate: &mut Kept,
 ) -> Result<(), AllocError> {
     gate.lay(1, REJECT)?;
-    assert!(rt; !writer.step_once(alloc, &mut Torn::new(alloc, 0, 100), gate));
+    holds(
+        rt,
+        !writer.step_once(alloc, &mut Torn::new(alloc, 0, 100), gate),
+    );
     Ok(())
 }

@@ -1,15 +1,15 @@
 //! Workers of links, and the ticker.
 
-ghost use Rattle.std.specs.Prelude.{◌≡◌, ◌≤◌, []};
+ghost use Rattle.std.specs.Prelude.{◌≤◌};
 
-use super::gates::{Kept, list_of};
+use super::gates::{Kept, lay_up_to_close};
 use super::lines::Sleeping;
 use super::pens::wrote;
-use super::streams::{Pieces, Torn};
+use super::streams::{Pieces, Torn, holds};
 use gate_workers::{
     Pen, WriterEnd, client_reader, client_writer, port_reader, port_writer, ticker,
 };
-use link_io::{ClientNumber, Event, LinkFault, LinkOut, PortNumber};
+use link_io::{ClientNumber, Event, LinkFault, PortNumber};
 use std::alloc::{AllocError, Global};
 use std::process::Abort;
 use std::sync::Wait;
@@ -55,7 +55,7 @@ fn letter_of(event: &Event) -> (u8, u16) {
 /// A gate was put these events.
 fn tells<R: Abort>(rt: &R, alloc: Global, gate: &Kept, expected: &[u8]) -> Result<(), AllocError> {
     let events = told(alloc, gate.events.as_slice())?;
-    assert!(rt; events.as_slice() == expected);
+    holds(rt, events.as_slice() == expected);
     Ok(())
 }
 
@@ -77,7 +77,7 @@ fn reads_to<R: Wait + Abort + time::Clock>(
     gate.gives_back = often;
     gate.left = often;
     let ended = read_into(rt, alloc, stream, reads_left, steps, &mut gate);
-    assert!(rt; ended == end);
+    holds(rt, ended == end);
     tells(rt, alloc, &gate, events)
 }
 
@@ -125,7 +125,7 @@ fn a_link_that_fails_is_gone_too(rt: HostRuntime) -> Result<(), Fail> {
 fn a_ports_link(rt: HostRuntime) -> Result<(), Fail> {
     let mut gate = Kept::new(rt.alloc());
     let end = read_port(&rt, rt.alloc(), &mut gate);
-    assert!(rt; end == Err(LinkFault::Malformed));
+    holds(&rt, end == Err(LinkFault::Malformed));
     Ok(tells(&rt, rt.alloc(), &gate, b"u3p3p3g3")?)
 }
 
@@ -145,29 +145,17 @@ fn read_port<R: Wait + time::Clock>(
     port_reader(rt, alloc, port, 7, 100, &mut stream, gate, &mut clock)
 }
 
-/// Two lists up to a `Close` for link 1, with bytes for another between, and one behind it.
-fn lay_up_to_close(alloc: Global, gate: &mut Kept) -> Result<(), AllocError>
-    ensures given { gate.new.given ≡ gate.old.given }
-{
-    gate.lay(1, b"behind")?;
-    gate.lay_last(1, b"cd")?;
-    let mut list = list_of(alloc, 1, b"ab")?;
-    let bytes = Vec::from_slice(alloc, b"x")?;
-    list.push(alloc, LinkOut::Write { link: 6, bytes })?;
-    Ok(gate.lists.push(list)?)
-}
-
 #[test]
 fn a_writer_ends_at_the_close(rt: HostRuntime) -> Result<(), Fail> {
     let alloc = rt.alloc();
     let mut gate = Kept::new(alloc);
-    lay_up_to_close(alloc, &mut gate)?;
+    lay_up_to_close(&mut gate, 1, b"ab", b"cd", 1)?;
     let pen = Pen::new(gate);
     written_to_its_close(&rt, alloc, &pen)?;
     let Ok(gate) = pen.into_gate() else {
         return Err(Fail::new("a link is open"));
     };
-    assert!(rt; gate.lists.len() == 1);
+    holds(&rt, gate.lists.len() == 1);
     Ok(())
 }
 
@@ -177,7 +165,7 @@ fn written_to_its_close<R: Wait + Abort + time::Clock>(
     alloc: Global,
     pen: &Pen<Torn, Kept>,
 ) -> Result<(), Fail> {
-    assert!(rt; write_client(rt, alloc, pen, 2).is_none());
+    holds(rt, write_client(rt, alloc, pen, 2).is_none());
     let written = write_client(rt, alloc, pen, 1);
     wrote(rt, written, Ok(WriterEnd::Closed), b"abcd")
 }
@@ -218,7 +206,7 @@ fn writes_until_stopped<R: Wait + Abort + time::Clock>(
     let mut clock = Sleeping::new(rt, Some(&flag));
     let port = PortNumber::new(1);
     let written = port_writer(rt, alloc, port, 1, 100, stream, &pen, &mut clock, &flag);
-    assert!(rt; clock.pauses == pauses);
+    holds(rt, clock.pauses == pauses);
     wrote(rt, written, end, bytes)
 }
 
@@ -242,6 +230,6 @@ fn ticks_of_three_rounds(rt: HostRuntime) -> Result<(), Fail> {
     let flag = AtomicBool::new(false);
     let mut clock = Sleeping::new(&rt, Some(&flag));
     ticker(&rt, rt.alloc(), 2, 1, &mut gate, &mut clock, &flag);
-    assert!(rt; clock.pauses == 3);
+    holds(&rt, clock.pauses == 3);
     Ok(tells(&rt, rt.alloc(), &gate, b"T1T2t1T1T2t1T1T2t1")?)
 }

@@ -1,8 +1,8 @@
 //! Writers of links.
 
-use super::gates::{Kept, list_of};
-use super::streams::Torn;
-use link_io::{BatchWriter, LinkFault, LinkOut, Wrote};
+use super::gates::{Kept, lay_up_to_close};
+use super::streams::{Torn, holds};
+use link_io::{BatchWriter, LinkFault, Wrote};
 use std::alloc::{AllocError, Global};
 use std::process::Abort;
 use std::test::Fail;
@@ -50,7 +50,7 @@ impl Writing {
     /// link 7.
     fn of_lists(alloc: Global, size: usize, writes_left: usize) -> Result<Writing, AllocError> {
         let mut writing = Writing::new(alloc, size, writes_left);
-        lay_lists(alloc, &mut writing.gate)?;
+        lay_up_to_close(&mut writing.gate, 7, FIRST, SECOND, 8)?;
         Ok(writing)
     }
 
@@ -60,7 +60,7 @@ impl Writing {
             .writer
             .step(self.alloc, &mut self.stream, &mut self.gate);
         assert_eq!(rt; wrote, expected);
-        assert!(rt; self.stream.taken.as_slice() == bytes);
+        holds(rt, self.stream.taken.as_slice() == bytes);
     }
 
     /// A prompt step: whether it leaves nothing.
@@ -71,31 +71,21 @@ impl Writing {
 
     /// A prompt step leaves nothing, with these bytes on the stream.
     fn writes_all<R: Abort>(&mut self, rt: &R, bytes: &[u8]) {
-        assert!(rt; self.step_once());
-        assert!(rt; self.stream.taken.as_slice() == bytes);
+        holds(rt, self.step_once());
+        holds(rt, self.stream.taken.as_slice() == bytes);
     }
 
     /// A prompt step leaves something, with these bytes on the stream.
     fn leaves_rest<R: Abort>(&mut self, rt: &R, bytes: &[u8]) {
-        assert!(rt; !self.step_once());
-        assert!(rt; self.stream.taken.as_slice() == bytes);
+        holds(rt, !self.step_once());
+        holds(rt, self.stream.taken.as_slice() == bytes);
     }
 
     /// So many lists lie there, and the stream takes so many writes more.
     fn has_left<R: Abort>(&self, rt: &R, lists: usize, writes: usize) {
-        assert!(rt; self.gate.lists.len() == lists);
-        assert!(rt; self.stream.writes_left == writes);
+        holds(rt, self.gate.lists.len() == lists);
+        holds(rt, self.stream.writes_left == writes);
     }
-}
-
-fn lay_lists(alloc: Global, gate: &mut Kept) -> Result<(), AllocError> {
-    gate.lay(8, FIRST)?;
-    gate.lay_last(7, SECOND)?;
-    let mut list = list_of(alloc, 7, FIRST)?;
-    let bytes = Vec::from_slice(alloc, SECOND)?;
-    list.push(alloc, LinkOut::Write { link: 6, bytes })?;
-    list.push(alloc, LinkOut::Close { link: 6 })?;
-    Ok(gate.lists.push(list)?)
 }
 
 /// So many bytes were written, of lists that the gate gave or not, and the link was closed or not.
@@ -112,7 +102,7 @@ fn lists_up_to_the_close_are_written(rt: HostRuntime) -> Result<(), Fail> {
     for size in [1, 4, 4_096] {
         let mut writing = Writing::of_lists(rt.alloc(), size, 100)?;
         writing.steps_to(&rt, wrote(11, true, true), BOTH);
-        assert!(rt; writing.gate.lists.len() == 1);
+        holds(&rt, writing.gate.lists.len() == 1);
     }
     Ok(())
 }
@@ -137,7 +127,7 @@ fn a_writer_that_fails_after_each_byte(rt: HostRuntime) -> Result<(), Fail> {
 fn a_write_of_no_byte_failed(rt: HostRuntime) -> Result<(), Fail> {
     let mut writing = Writing::of_lists(rt.alloc(), 0, 100)?;
     writing.steps_to(&rt, Err(LinkFault::WriteFailed), b"");
-    assert!(rt; writing.stream.writes_left == 99);
+    holds(&rt, writing.stream.writes_left == 99);
     Ok(())
 }
 
@@ -157,7 +147,7 @@ fn a_prompt_step_writes_once_and_leaves_the_rest(rt: HostRuntime) -> Result<(), 
     let mut writing = Writing::of_lists(rt.alloc(), 4, 100)?;
     writing.leaves_rest(&rt, &BOTH[..4]);
     writing.steps_to(&rt, wrote(7, true, true), BOTH);
-    assert!(rt; writing.gate.lists.len() == 1);
+    holds(&rt, writing.gate.lists.len() == 1);
     Ok(())
 }
 
@@ -184,10 +174,10 @@ fn a_prompt_step_takes_no_more_lists_than_a_step(rt: HostRuntime) -> Result<(), 
     for _ in 0..65 {
         writing.gate.lay(7, FIRST)?;
     }
-    assert!(rt; !writing.step_once());
-    assert!(rt; writing.stream.taken.len() == 320);
-    assert!(rt; writing.step_once());
-    assert!(rt; writing.stream.taken.len() == 325);
+    holds(&rt, !writing.step_once());
+    holds(&rt, writing.stream.taken.len() == 320);
+    holds(&rt, writing.step_once());
+    holds(&rt, writing.stream.taken.len() == 325);
     Ok(())
 }
 
@@ -223,6 +213,6 @@ const FAULTS: [LinkFault; 5] = [
 #[test]
 fn numbers_of_faults(rt: HostRuntime) {
     for (place, fault) in FAULTS.iter().enumerate() {
-        assert!(rt; usize::from(fault.number()) == place + 1);
+        holds(&rt, usize::from(fault.number()) == place + 1);
     }
 }
