@@ -29,8 +29,8 @@ type TestLine<'p, 'a, R> = Line<
     PenWorker<'p, Counted<'a>, Waiting<'a, R>, Sleeping<'a, R>>,
 >;
 
-/// A gate at which nothing lies. Its put of this number, from 1, waits for `goes_on`; of number 0 none waits. As its last
-/// list is taken `is_taken` is set.
+/// A gate at which nothing lies. Its put of this number, from 1, waits for `goes_on`; of number 0 none waits. As its
+/// last list is taken `is_taken` is set.
 fn gate_of<'a, R>(
     rt: &'a R,
     alloc: Global,
@@ -150,8 +150,8 @@ fn told_pen<'a, R: time::Clock>(
 const LOGON_AND_HEARTBEAT: &[u8; 52] =
     b"8=FIX.4.4\x019=5\x0135=A\x0110=180\x018=FIX.4.4\x019=5\x0135=0\x0110=163\x01";
 
-/// Which put of the first of two clients waits, from 1, and which of the second; 0 is none. The first waits for what the
-/// second is told, or for what it is told itself; the second for what the first is told.
+/// Which put of the first of two clients waits, from 1, and which of the second; 0 is none. The first waits for what
+/// the second is told, or for what it is told itself; the second for what the first is told.
 #[derive(Clone, Copy)]
 struct Waits {
     first: u32,
@@ -200,8 +200,8 @@ fn look_at_flags<R: Abort>(rt: &R, seen: &Seen) {
     holds(rt, seen.bytes.load(Ordering::SeqCst) == 52);
 }
 
-/// Two clients, each of which is told a heartbeat; the link of the first brings these bytes, which are so many events with
-/// its beginning and its end.
+/// Two clients, each of which is told a heartbeat; the link of the first brings these bytes, which are so many events
+/// with its beginning and its end.
 fn two_clients<'a, R: Threads + Wait + time::Clock + Abort + Sync>(
     rt: &'a R,
     alloc: Global,

@@ -301,8 +301,8 @@ fn a_port_is_connected_again_after_a_second(rt: HostRuntime) -> Result<(), Fail>
     is_refused_twice(&rt, &mut connector, second, &is_over)
 }
 
-/// Nobody listens any more: a port's line can't open its next link, a second after this moment, and tries again until it
-/// is over.
+/// Nobody listens any more: a port's line can't open its next link, a second after this moment, and tries again until
+/// it is over.
 fn is_refused_twice<R: Clock + Abort, O: Opener>(
     rt: &R,
     connector: &mut O,

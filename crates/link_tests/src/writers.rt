@@ -35,8 +35,8 @@ impl Drop for Writing {
 }
 
 impl Writing {
-    /// A writer of 100 steps over a gate where nothing lies, onto a stream that takes so many bytes a write and fails at
-    /// the write of this number.
+    /// A writer of 100 steps over a gate where nothing lies, onto a stream that takes so many bytes a write and fails
+    /// at the write of this number.
     fn new(alloc: Global, size: usize, writes_left: usize) -> Writing {
         Writing {
             alloc,
