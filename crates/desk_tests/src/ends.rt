@@ -1,7 +1,8 @@
 //! Ends of a desk, and its turns.
 
+use super::events::put;
 use desk::{Closed, DeskName, Finished, Inlet, Outlet, Shared, Turned};
-use script_steps::History;
+use script_steps::{Event, History};
 use std::alloc::{AllocError, Global};
 use std::process::Abort;
 use std::sync::Wait;
@@ -25,6 +26,20 @@ pub fn turns_to<K: DeskName, R: Wait + Abort>(
         }
     );
     Ok(())
+}
+
+/// Puts an event at an inlet, and has it stepped.
+pub fn step<K: DeskName, R: Wait + Abort>(
+    rt: &R,
+    alloc: Global,
+    shared: &Shared<K>,
+    inlets: &mut [Inlet<K>],
+    place: usize,
+    event: Event,
+) -> Result<(), Fail> {
+    let inlet = inlets.get_mut(place).ok_or("an inlet")?;
+    assert!(rt; put(inlet, event));
+    Ok(turns_to(rt, alloc, shared, 1, 0)?)
 }
 
 /// The inlet of the clock, and that of the first client.
