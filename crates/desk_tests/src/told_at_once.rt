@@ -138,16 +138,10 @@ fn turn_with<'p, 'w, 'a, K: DeskName, R: Wait + Abort + Clock>(
         return Err(Fail::new("an inlet"));
     };
     let mut gate = InletGate::new(shared, pens, inlet);
-    come_up(rt, alloc, &mut gate)?;
-    is_not_rung(rt, shared, 0)?;
-    gate.wake_writer();
-    is_rung(rt, shared, 0)
-}
-
-/// The first client's link comes up and it logs on, over its gate, which has both stepped as it turns.
-fn come_up<G: Gate, R: Wait + Abort>(rt: &R, alloc: Global, gate: &mut G) -> Result<(), Fail> {
     assert!(rt; gate.put(up()).is_ok());
     assert!(rt; gate.put(logon(alloc)?).is_ok());
     assert!(rt; gate.turn(rt, alloc)? == 2);
-    Ok(())
+    is_not_rung(rt, shared, 0)?;
+    gate.wake_writer();
+    is_rung(rt, shared, 0)
 }
