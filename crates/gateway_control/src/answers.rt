@@ -55,8 +55,7 @@ impl<'a, R: Wait + Clock> Answers<'a, R> {
     /// Shows what may be shown.
     fn shows(&self, view: View, response: &mut Response) -> Result<(), AllocError> {
         let text = self.text_of(view)?;
-        let kind = HeaderValue::from_static(kind_of(view));
-        response.add_header(header::CONTENT_TYPE, kind)?;
+        response.add_header(header::CONTENT_TYPE, kind_of(view))?;
         let body = Bytes::from_vec(text)?;
         response.body.push(body)
     }
@@ -102,11 +101,11 @@ fn said_of(act: Act) -> &'static [u8] {
 }
 
 /// The media type of what is shown.
-fn kind_of(view: View) -> &'static str {
+fn kind_of(view: View) -> HeaderValue {
     match view {
-        View::Page => "text/html; charset=utf-8",
-        View::Json => "application/json",
-        View::Metrics => "text/plain; version=0.0.4; charset=utf-8",
+        View::Page => HeaderValue::from_static("text/html; charset=utf-8"),
+        View::Json => HeaderValue::from_static("application/json"),
+        View::Metrics => HeaderValue::from_static("text/plain; version=0.0.4; charset=utf-8"),
     }
 }
 

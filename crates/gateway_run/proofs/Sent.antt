@@ -92,7 +92,7 @@ module _ (a : NamedLft) (K R : RattleType) (k : DeskName.Ghosts K.Denot) (r : Is
         search (sendable, crosses) depth 40,
         (
           search (shared_sync, sendable) depth 40,
-          (search (teller_send a R r, sendable) depth 40, (search sendable, tt)),
+          (search (teller_send, r, sendable) depth 40, (search sendable, tt)),
         ),
       ),
     ),
