@@ -16,7 +16,7 @@ use script_command::{audit_script, tell_refusal};
 use std::alloc::Global;
 use std::fs::{File, Files};
 use std::hash::RandomState;
-use std::io::{self, BufWriter, ErrorKind, Write};
+use std::io::{self, BufWriter, ErrorKind, Read, Write};
 use std::net::{Net, TcpListener, TcpStream};
 use std::process::ExitCode;
 use std::random::RandomSource;
@@ -330,7 +330,7 @@ fn ended<R: Files<File = File>, W: Write, F: Write>(
     let Some(path) = journal else {
         return audit_day(alloc, day, output, faults);
     };
-    match fs::read(rt, path) {
+    match bytes_at(rt, alloc, path) {
         Ok(file) => end_day(alloc, day, file.as_slice(), output, faults),
         Err(_) => {
             let audited = audit_day(alloc, day, output, faults);
@@ -338,6 +338,14 @@ fn ended<R: Files<File = File>, W: Write, F: Write>(
             audited.max(1)
         }
     }
+}
+
+/// The bytes of a file.
+fn bytes_at<R: Files<File = File>>(rt: &R, alloc: Global, path: &str) -> io::Result<Vec<u8>> {
+    let mut file = File::open(rt, path)?;
+    let mut bytes = Vec::new(alloc);
+    let _ = file.read_to_end(&mut bytes)?;
+    Ok(bytes)
 }
 
 /// Shows a gateway on loopback.
