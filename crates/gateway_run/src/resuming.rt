@@ -26,7 +26,7 @@ pub struct DayJournal {
 
 /// Steps the events of a journal's day again by a desk that was opened just now, compares what comes of them, has the
 /// desk write behind them from then on, and steps that each link that was up is gone. What the day tells is told
-/// nobody: it was told before, or is asked for anew.
+/// nobody: it was told before, or is asked for anew. Without a journal it does nothing.
 ///
 /// `OtherDay` where another batch comes of an event, `NoMemory` where memory ran out: then nothing was written.
 pub(crate) fn go_on<K: DeskName, R: Wait + Clock>(
@@ -35,11 +35,13 @@ pub(crate) fn go_on<K: DeskName, R: Wait + Clock>(
     shared: &Shared<K, RandomState>,
     inlets: &mut Vec<Inlet<K>>,
     outlets: &mut Vec<Outlet<K>>,
-    journal: DayJournal,
+    journal: Option<DayJournal>,
 ) -> Result<(), RunFault>
     ensures { length inlets.new.items ≡ length inlets.old.items }
 {
-    let DayJournal { file, day } = journal;
+    let Some(DayJournal { file, day }) = journal else {
+        return Ok(());
+    };
     let events = day.events(alloc)?;
     let links = open_links(alloc, events.as_slice())?;
     for event in events {

@@ -112,9 +112,7 @@ where
     requires clock { 0 < length parts.inlets }
 {
     let (shared, mut inlets, mut outlets) = open_desk::<K, RandomState>(alloc, parts)?;
-    if let Some(journal) = journal {
-        go_on(rt, alloc, &shared, &mut inlets, &mut outlets, journal)?;
-    }
+    go_on(rt, alloc, &shared, &mut inlets, &mut outlets, journal)?;
     let counts = ClientCounts::of(plan.clients.len().min(usize::from(count.clients)) as u32);
     let pens = pens_of::<A::Writer, K, R>(rt, alloc, &shared, outlets, plan.rules.tells_frames)?;
     let mut left = serve_desk(
