@@ -310,7 +310,9 @@ class Day:
         bank, fund, port = self.bank, self.fund, self.market
         bank.wait(lambda frame: False, 0.3)
         wanted = {"client": "C1", "name": "BANK", "logged_on": True, "next_in": bank.sent + 1}
-        status = self.status_where(lambda it: it["clients"][0]["next_in"] == bank.sent + 1)
+        status = self.status_where(lambda it: it["clients"][0]["next_in"] == bank.sent + 1
+                                   and it["ports"][0]["next"] == len(port.said) + 1
+                                   and it["ports"][0]["state"] == "up")
         one, two, first = *status["clients"], status["ports"][0]
         self.is_so("status.json has the first client", {key: one[key] for key in wanted} == wanted)
         self.is_so("status.json has its numbers",

@@ -78,6 +78,7 @@ pub fn close<K: DeskName>(
             Closed {
                 history,
                 settings: _,
+                lost: _,
             },
         ) => Ok(history),
         Err(_) => Err(Fail::new("the desk isn't closed")),
