@@ -32,6 +32,7 @@ class Client:
         self.session = Session(b"C%d" % (index + 1), GATEWAY, plan.interval, self.deliver, self.book.skip)
         self.counts, self.complaints, self.unread_logouts = Counter(), [], []
         self.link, self.spare, self.dialled, self.away_until = None, None, 0, 0.0
+        self.connected = self.killed = 0
         self.may_be_closed, self.hushed_at, self.stalled_until, self.has_stalled = False, 0.0, 0.0, False
         self.begin = self.next_at = time.monotonic()
         self.tested = self.looked = 0.0
@@ -84,6 +85,7 @@ class Client:
             stream.close()
             return None
         self.dialled += 1
+        self.connected = self.day.killed.value
         return stream
 
     def dial(self, now):
@@ -101,7 +103,7 @@ class Client:
         self.session.begin(now)
         self.may_be_closed, self.hushed_at, self.stalled_until, self.bad = False, 0.0, 0.0, False
         self.said_all = self.has_stalled = False
-        self.opened_at = now
+        self.opened_at, self.killed = now, self.connected
         if may_lose and self.random.random() < 0.1:
             self.log_on_wrongly(now)
         else:
@@ -110,6 +112,9 @@ class Client:
     def take_spare(self):
         """The second connection, on which nothing may have come while there was a first."""
         stream, self.spare = self.spare, None
+        if stream and self.connected != self.day.killed.value:
+            stream.close()
+            return None
         if stream and select.select([stream], [], [], 0)[0]:
             self.complain("a second connection was answered or closed while the first was open")
         return stream
@@ -167,7 +172,7 @@ class Client:
         """A link that is no longer open: whether it ended as it had to."""
         if not self.link or self.link.is_open:
             return
-        cut = self.link.was_cut
+        cut = self.link.was_cut or self.day.killed.value != self.killed
         self.counts["links cut" if cut else "links that the gateway closed"] += 1
         if not cut and not self.session.ended and not self.may_be_closed:
             self.complain("the gateway closed the link without a word")

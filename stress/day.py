@@ -2,6 +2,7 @@
 import multiprocessing
 import os
 import pickle
+import random
 import re
 import shutil
 import subprocess
@@ -23,6 +24,9 @@ EVENT = re.compile(r"\d{8}-\d\d:\d\d:\d\d\.\d{3} ([CP]\d+) "
 SKIPPED = re.compile(r"\d{8}-\d\d:\d\d:\d\d\.\d{3} (C\d+) skipped (\d+) bytes")
 # what is told in place of a frame that there was no memory for
 UNSHOWN = re.compile(r"\d{8}-\d\d:\d\d:\d\d\.\d{3} C\d+ sent a Reject, a ResendRequest or a Logout")
+# why a link's session is refused, and that events wait for memory
+WHY = re.compile(r"\d{8}-\d\d:\d\d:\d\d\.\d{3} ([CP])\d+ (Logon refused|login rejected): [ -~]+")
+MEMORY = re.compile(r"\d{8}-\d\d:\d\d:\d\d\.\d{3} gateway: (out of memory: events wait|memory is back after \d+\.\d s)")
 SETTLES, CLOSES, LEAVES = 90.0, 40.0, 60.0
 
 
@@ -31,9 +35,9 @@ def serve(path, made, *words):
     Path(path).write_bytes(pickle.dumps(made(*words).run().result()))
 
 
-def settings(plan, markets, addresses):
+def settings(plan, markets, addresses, control):
     """The gateway's settings file."""
-    lines = ['comp = "GATE"']
+    lines = ['comp = "GATE"', "[day]", "linger = 0", "[control]", f'listen = "127.0.0.1:{control}"']
     for i, it in enumerate(markets):
         lines += ["[[port]]", f'name = "P{i + 1}"', f'address = "127.0.0.1:{it}"',
                   f'user = "{USER.decode()}"', f'password = "{PASSWORD.decode()}"']
@@ -54,6 +58,7 @@ class Day:
 
     def __init__(self, options):
         self.options, self.plan = options, planned(options)
+        self.plan.killed = FORK.Value("i", 0)
         self.folder = Path(tempfile.mkdtemp(prefix="stress."))
         self.stage = FORK.Value("i", TRADING)
         self.moods = [FORK.Value("i", 0) for _ in self.plan.clients]
@@ -75,8 +80,8 @@ class Day:
 
     def start(self):
         markets = [self.start_market(i, plan) for i, plan in enumerate(self.plan.markets)]
-        addresses = free_addresses(len(self.plan.clients))
-        Path(self.folder, "settings").write_text(settings(self.plan, markets, addresses))
+        control, *addresses = free_addresses(len(self.plan.clients) + 1)
+        Path(self.folder, "settings").write_text(settings(self.plan, markets, addresses, control))
         self.start_gateway()
         for i, (address, plan) in enumerate(zip(addresses, self.plan.clients)):
             may_fault = HOSTILE.get(self.plan.markets[plan.port].hostile, b"") != b""
@@ -97,12 +102,37 @@ class Day:
         self.processes.append(process)
 
     def start_gateway(self):
-        words = [self.options.gateway, "run", "--settings", str(Path(self.folder, "settings"))]
+        words = [self.options.gateway, "serve" if self.options.kill else "run"]
+        words += ["--settings", str(Path(self.folder, "settings")), "--journal", str(Path(self.folder, "journal"))]
+        words += [] if self.options.kill else ["--links", str(self.plan.links)]
         more = self.refusing.environment() if self.refusing else {}
-        with open(Path(self.folder, "output"), "wb") as output, open(Path(self.folder, "errors"), "wb") as errors:
-            words += ["--links", str(self.plan.links), "--journal", str(Path(self.folder, "journal"))]
+        with open(Path(self.folder, "output"), "wb") as output, open(Path(self.folder, "errors"), "ab") as errors:
             self.gateway = subprocess.Popen(words, stdout=output, stderr=errors, env={**os.environ, **more})
         self.status, self.usage = None, None
+
+    def kill_gateway(self):
+        """The gateway is gone at once, and begun again with the same journal."""
+        self.plan.killed.value += 1
+        self.gateway.kill()
+        self.gateway.wait()
+        self.plan.killed.value += 1
+        self.start_gateway()
+
+    def trade(self, seconds):
+        """So many seconds of traffic, in which the gateway is killed as often as is asked for."""
+        chance, begin = random.Random(f"{self.plan.seed} kills"), time.monotonic()
+        for moment in sorted(chance.uniform(0.5, seconds) for _ in range(self.options.kill)):
+            self.wait(begin + moment - time.monotonic(), lambda: False)
+            if self.poll():
+                return
+            self.kill_gateway()
+        self.wait(begin + seconds - time.monotonic(), lambda: False)
+
+    def end_gateway(self):
+        """A gateway that is served is told to end."""
+        if self.options.kill:
+            words = [self.options.gateway, "end", "--now", "--settings", str(Path(self.folder, "settings"))]
+            subprocess.run(words, capture_output=True)
 
     def poll(self):
         """The gateway's end, once it is there, with what it has used."""
@@ -131,7 +161,7 @@ class Day:
         begin = time.monotonic()
         self.wait(2.0, lambda: False)
         self.switch(True)
-        self.wait(self.plan.seconds - 2, lambda: False)
+        self.trade(self.plan.seconds - 2)
         self.stage.value = SETTLING
         self.need("traffic settles", SETTLES, lambda: self.are_at(SETTLED) and all(it.value for it in self.quiet))
         self.switch(False)
@@ -139,6 +169,7 @@ class Day:
         self.need("last orders are filled", CLOSES, lambda: self.are_at(CLOSED))
         self.stage.value = LEAVING
         self.need("all clients leave", LEAVES, lambda: self.are_at(LEFT))
+        self.end_gateway()
         self.need("the gateway ends", LEAVES, self.poll)
         self.took = time.monotonic() - begin
         self.stage.value = OVER
@@ -222,9 +253,18 @@ class Day:
             if self.refusing and UNSHOWN.fullmatch(line):
                 counts["C sent what isn't shown"] += 1
                 continue
+            if self.refusing and MEMORY.fullmatch(line):
+                counts["of memory"] += 1
+                continue
+            if why := WHY.fullmatch(line):
+                counts[f"{why[1]} {why[2]}"] += 1
+                continue
             if skips := SKIPPED.fullmatch(line):
                 counts["C skipped"] += 1
                 skipped[skips[1], ups[skips[1]]] = int(skips[2])
+                continue
+            if self.options.kill and not EVENT.fullmatch(line):
+                counts["of a gateway that is served"] += 1
                 continue
             found = EVENT.fullmatch(line)
             counts[f"{found[1][0]} {found[2]}{kind_of(found)}" if found else "unforeseen"] += 1
@@ -237,9 +277,10 @@ class Day:
             elif found[2].startswith("port fault"):
                 faults[found[1], found[2][-1:]] += 1
         counts["bytes skipped"] = sum(skipped.values())
-        self.port_faults(faults)
+        if not self.options.kill:
+            self.port_faults(faults)
         for name, count in ups.items():
-            if count > self.plan.links or name[0] == "C" and count < self.plan.links:
+            if not self.options.kill and (count > self.plan.links or name[0] == "C" and count < self.plan.links):
                 self.complaints.append(f"seed {self.plan.seed}: {name} had {count} links of {self.plan.links}")
         return counts
 

@@ -57,7 +57,7 @@ def planned(options):
     it = random.Random(options.seed)
     ports = options.ports or it.randint(1, min(4, options.clients or 4))
     clients = options.clients or it.randint(2, 8)
-    links = max(10, int(options.seconds * it.choice([0.5, 0.5, 2])))
+    links = max(10, int(options.seconds * it.choice([0.5, 0.5, 2]))) + 3 * options.kill
     markets = [market(it, options) for _ in range(ports)]
     hostile = it.choice(list(HOSTILE))
     if options.hostile or it.random() < 0.25 and options.hostile is None:

@@ -3,7 +3,11 @@
 The gateway starts before its market is there, clients connect and say nothing, or the wrong thing, one never comes, the
 market goes and comes again, and `gateway end` ends the day. Each step prints what came; the status is 0 where all came
 that has to."""
+import csv
+import io
+import json
 import os
+import re
 import socket
 import stat
 import subprocess
@@ -265,6 +269,10 @@ class Day:
         bank = Client(b"BANK", self.at["bank"])
         bank.sent = self.bank.sent
         self.is_so("the client logs on behind them", bank.log_on() is not None)
+        why, until = "C1 Logon refused: 49=NOBODY isn't this client's name\n", time.monotonic() + 5
+        while (count := self.errors.read_text().count(why)) < 100 and time.monotonic() < until:
+            time.sleep(0.02)
+        self.is_so(f"why is told, of each ({count})", count == 100)
         self.bank = bank
 
     def foreign_addresses(self):
@@ -274,12 +282,150 @@ class Day:
         self.is_so("who comes from a client's own address logs on", fund.log_on() is not None)
         self.is_so("the other is told as a count", self.says("1 from other addresses before"))
 
+    def fetched(self, path, method="GET", more=""):
+        """Status, fields and body of the endpoint's answer to a request with host and token."""
+        head = f"{method} {path} HTTP/1.1\nHost: localhost:{self.at['control']}\n" \
+               f"Authorization: Bearer 0123456789abcdef\n{more}Connection: close\n\n"
+        stream = socket.create_connection(("127.0.0.1", self.at["control"]), 5)
+        stream.sendall(head.replace("\n", "\r\n").encode())
+        answer = b""
+        while data := stream.recv(65536):
+            answer += data
+        stream.close()
+        head, _, body = answer.partition(b"\r\n\r\n")
+        first, *lines = head.decode().split("\r\n")
+        fields = dict(line.lower().split(": ", 1) for line in lines)
+        return int(first.split()[1]), fields, body.decode()
+
+    def status_where(self, holds, seconds=5):
+        """The status of which that holds, or the last one."""
+        end = time.monotonic() + seconds
+        while True:
+            status = json.loads(self.fetched("/status.json")[2])
+            if "clients" in status and holds(status) or time.monotonic() > end:
+                return status
+            time.sleep(0.1)
+
+    def what_is_shown(self):
+        bank, fund, port = self.bank, self.fund, self.market
+        bank.wait(lambda frame: False, 0.3)
+        wanted = {"client": "C1", "name": "BANK", "logged_on": True, "next_in": bank.sent + 1}
+        status = self.status_where(lambda it: it["clients"][0]["next_in"] == bank.sent + 1
+                                   and it["ports"][0]["next"] == len(port.said) + 1
+                                   and it["ports"][0]["state"] == "up")
+        one, two, first = *status["clients"], status["ports"][0]
+        self.is_so("status.json has the first client", {key: one[key] for key in wanted} == wanted)
+        self.is_so("status.json has its numbers",
+                   one["next_out"] == max(int(frame[34]) for frame in bank.frames) + 1 and one["link"] > 100)
+        self.is_so("status.json has no order open", (one["open_orders"], two["open_orders"]) == (0, 0))
+        self.is_so("status.json has the second client",
+                   (two["name"], two["logged_on"], two["next_in"]) == ("FUND", True, fund.sent + 1))
+        self.is_so("status.json has the port", (first["state"], first["next"]) == ("up", len(port.said) + 1)
+                   and first["address"] == f"127.0.0.1:{self.at['market']}")
+        self.is_so("status.json is of just now", status["age_ms"] < 3000 and status["events"] > 100
+                   and status["gateway"] == "GATE" and status["ends"] is None)
+        code, fields, page = self.fetched("/")
+        self.is_so("the page is one of HTML that nothing else may add to",
+                   code == 200 and fields["content-type"].startswith("text/html")
+                   and fields["content-security-policy"].startswith("default-src 'none'")
+                   and fields["x-content-type-options"] == "nosniff" and fields["cache-control"] == "no-store")
+        self.is_so("the page has clients and ports, and no alarm", "BANK" in page and page.count("logged on") == 2
+                   and "class=\"alarm\"" not in page and "<script" not in page)
+        everything = page + self.fetched("/metrics")[2] + json.dumps(status)
+        self.is_so("neither user, password nor token is shown",
+                   not any(secret in everything for secret in ("USER01", "PASSWORD", "0123456789abcdef")))
+        self.metrics(status)
+
+    def metrics(self, status):
+        code, fields, text = self.fetched("/metrics")
+        self.is_so("metrics are of their format", code == 200 and "version=0.0.4" in fields["content-type"])
+        samples, kinds, is_well = {}, {}, True
+        for line in text.splitlines():
+            if found := re.fullmatch(r"# TYPE (\w+) (counter|gauge)", line):
+                is_well = is_well and found[1] not in kinds
+                kinds[found[1]] = found[2]
+            elif not re.fullmatch(r"# HELP \w+ .+", line):
+                found = re.fullmatch(r'(\w+)(?:\{(\w+)="((?:[^"\\\n]|\\["\\n])*)"\})? (\d+)', line)
+                is_well = is_well and bool(found) and found[1] in kinds and (found[1], found[3]) not in samples
+                samples[found[1], found[3]] = int(found[4])
+        self.is_so("metrics are read by their format", is_well and text.endswith("\n"))
+        one, two = status["clients"]
+        wanted = {("gateway_client_up", "BANK"): 1, ("gateway_client_up", "FUND"): 1,
+                  ("gateway_client_next_in", "BANK"): one["next_in"],
+                  ("gateway_client_next_in", "FUND"): two["next_in"],
+                  ("gateway_client_next_out", "BANK"): one["next_out"],
+                  ("gateway_open_orders", "BANK"): one["open_orders"],
+                  ("gateway_open_orders", "FUND"): two["open_orders"],
+                  ("gateway_port_up", status["ports"][0]["address"]): 1,
+                  ("gateway_port_faulted", status["ports"][0]["address"]): 0,
+                  ("gateway_port_next", status["ports"][0]["address"]): status["ports"][0]["next"]}
+        self.is_so("metrics say what status.json says", all(samples.get(key) == value for key, value in wanted.items()))
+
+    def a_disconnect(self):
+        origin = "Origin: http://evil.example\n"
+        for what, path, method, more, code in (
+                ("a disconnect that is got", "/disconnect?client=C2", "GET", "", 405),
+                ("a disconnect by another site", "/disconnect?client=C2", "POST", origin, 403),
+                ("a disconnect of nobody", "/disconnect", "POST", "", 404),
+                ("a disconnect of a client that isn't there", "/disconnect?client=C3", "POST", "", 404),
+                ("a disconnect of another's name", "/disconnect?client=FUND", "POST", "", 404)):
+            answer = self.fetched(path, method, more)[0]
+            self.is_so(f"{what}: {answer}", answer == code)
+        self.is_so("nobody was disconnected by these", not self.fund.is_over(0.5))
+        before = self.fund.sent
+        code, _, body = self.fetched("/disconnect?client=C2", "POST")
+        self.is_so("a disconnect is answered", (code, body) == (200, "disconnecting\n"))
+        self.is_so("the client's link ends", self.fund.is_over(5))
+        self.is_so("another client's doesn't", not self.bank.is_over(0.1))
+        status = self.status_where(lambda it: not it["clients"][1]["logged_on"])
+        self.is_so("the client isn't logged on then", status["clients"][1]["link"] is None)
+        fund = Client(b"FUND", self.at["fund"], "127.0.0.2")
+        fund.sent = before
+        self.is_so("the client logs on again", fund.log_on() is not None)
+        self.fund = fund
+
+    def many_readers(self):
+        """Readers of the page, and connections that ask and don't read, while an order is filled."""
+        deaf = [socket.create_connection(("127.0.0.1", self.at["control"]), 5) for _ in range(2)]
+        for stream in deaf:
+            stream.sendall(f"GET / HTTP/1.1\r\nHost: localhost:{self.at['control']}\r\n".encode())
+        counts = []
+
+        def reads():
+            counts.append(sum(self.fetched("/")[0] == 200 for _ in range(250)))
+
+        threads = [threading.Thread(target=reads) for _ in range(6)]
+        begin = time.monotonic()
+        for thread in threads:
+            thread.start()
+        self.bank.order(b"M1")
+        is_filled = self.bank.told(b"M1", b"F") is not None
+        spent = time.monotonic() - begin
+        for thread in threads:
+            thread.join()
+        self.is_so(f"1,500 pages are read beside two connections that say half ({time.monotonic() - begin:.1f} s)",
+                   counts == [250] * 6)
+        self.is_so(f"an order is filled meanwhile ({1000 * spent:.0f} ms)", is_filled and spent < 1)
+        status = self.status_where(lambda it: it["age_ms"] < 1500)
+        self.is_so("the status is of just now behind that", status["age_ms"] < 1500)
+        for stream in deaf:
+            stream.close()
+
     def market_restarts(self):
         for turn in range(3):
             name = b"R%d" % turn
             self.market.end()
             self.bank.order(name)
             waits = self.bank.told(name, b"A") is not None
+            if turn == 0:
+                status = self.status_where(lambda it: it["ports"][0]["state"] == "down"
+                                           and it["clients"][0]["open_orders"] == 1)
+                self.is_so("status.json has a port that is down", status["ports"][0]["state"] == "down")
+                self.is_so("status.json has the order that waits as open",
+                           [client["open_orders"] for client in status["clients"]] == [1, 0])
+                page = self.fetched("/")[2]
+                self.is_so("the page's alarm says so", "<div class=\"alarm\"><b>P1</b> at " in page and
+                           page.index("class=\"alarm\"") < page.index("<table"))
             self.market.begin()
             self.is_so(f"a market that goes and comes again fills what waited ({turn + 1})",
                        waits and self.bank.told(name, b"F", 70) is not None)
@@ -322,6 +468,8 @@ class Day:
     def the_end(self):
         self.bank.order(b"OPEN", b"1")
         self.is_so("an order is open at the market", self.bank.told(b"OPEN", b"0") is not None)
+        status = self.status_where(lambda it: it["clients"][0]["open_orders"] == 1)
+        self.is_so("status.json has it as open", [client["open_orders"] for client in status["clients"]] == [1, 0])
         begin = time.monotonic()
         ran = self.end()
         spent = time.monotonic() - begin
@@ -332,11 +480,37 @@ class Day:
         told, audit = self.errors.read_text(), self.output.read_text()
         self.is_so("the open order is named", "OPEN of BANK: 100 of 100 open at the market\n" in told)
         self.is_so("and counted", "1 orders are open at the market, 0 weren't answered" in told)
-        self.is_so("the audit has all orders, and all agree", audit.endswith("orders 5 agree 5\n"))
+        self.is_so("the audit has all orders, and all agree", audit.endswith("orders 6 agree 6\n"))
         ran = subprocess.run([self.gateway, "audit", "--journal", str(self.journal), "--settings", str(self.settings)],
                              capture_output=True, text=True)
         self.is_so("the journal has the same audit", (ran.returncode, ran.stdout) == (0, audit))
         self.market.end()
+
+    def exported(self, *more):
+        return subprocess.run([self.gateway, "export", "--journal", str(self.journal), *more], capture_output=True, text=True)
+
+    def an_export(self):
+        orders = [b"A1", b"R0", b"R1", b"R2", b"M1", b"OPEN"]
+        wanted = [("C1", "in", name.decode()) for name in orders]
+        table, objects, lines = (self.exported("--format", name) for name in ("csv", "json", "messages"))
+        self.is_so("exports have status 0, and csv is the form where none is named",
+                   [ran.returncode for ran in (table, objects, lines)] == [0, 0, 0] and self.exported().stdout == table.stdout)
+        rows = list(csv.DictReader(io.StringIO(table.stdout, newline="")))
+        self.is_so("csv has each new order", [(row["who"], row["way"], row["11"]) for row in rows if row["35"] == "D"] == wanted)
+        said = [json.loads(line) for line in objects.stdout.splitlines()]
+        self.is_so("json has each new order",
+                   [(row["who"], row["way"], row["11"]) for row in said if row.get("35") == "D"] == wanted)
+        self.is_so("json has what csv has", [{key: value for key, value in row.items() if value} for row in rows] == said)
+        self.is_so("a message a line has as many", len(lines.stdout.splitlines()) == len(said)
+                   and sum("C1 < 35=D|" in line for line in lines.stdout.splitlines()) == len(orders))
+        asked, filled = (sum((row["who"], row["way"], row.get("ouch")) == key for row in said)
+                         for key in (("P1", "out", "O"), ("P1", "in", "E")))
+        self.is_so("each order was asked, and all but one filled", (asked, filled) == (len(orders), len(orders) - 1))
+        everything = table.stdout + objects.stdout + lines.stdout
+        self.is_so("neither user nor password is handed on",
+                   "USER01" not in everything and "PASSWORD" not in everything)
+        ran = self.exported("--format", "xml")
+        self.is_so("another form is refused", (ran.returncode, ran.stdout) == (2, ""))
 
     def a_pipe_that_nobody_reads(self):
         words = [self.gateway, "serve", "--settings", str(self.settings)]
@@ -366,14 +540,15 @@ class Day:
                    (ran.returncode, self.running.returncode) == (0, 0))
         lost = [int(line.split()[1]) for line in told.splitlines() if "lines are lost here" in line]
         self.is_so(f"{sum(lost)} lines are lost, and told as lost", sum(lost) > 0)
-        kept = sum(" C2 up" in line or " C2 closed" in line for line in told.splitlines())
-        self.is_so(f"{kept} lines of that client are there: with those that are lost about all of 3,000",
-                   2900 < kept + sum(lost) < 3100)
+        kept = sum(" C2 up" in line or " C2 Logon refused" in line or " C2 closed" in line for line in told.splitlines())
+        self.is_so(f"{kept} lines of that client are there: with those that are lost about all of 4,500",
+                   4400 < kept + sum(lost) < 4600)
         self.market.end()
 
     def run(self):
         for step in (self.an_address_in_use, self.nobody_to_end, self.before_the_market, self.bare_connects,
-                     self.refused_logons, self.foreign_addresses, self.market_restarts, self.headers, self.the_end,
+                     self.refused_logons, self.foreign_addresses, self.market_restarts, self.what_is_shown,
+                     self.a_disconnect, self.many_readers, self.headers, self.the_end, self.an_export,
                      self.a_pipe_that_nobody_reads):
             step()
         print("all is right" if self.wrong == 0 else f"{self.wrong} wrong")

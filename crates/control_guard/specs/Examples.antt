@@ -1,9 +1,10 @@
 -- Computed: a request for each row of the table, and its neighbours.
 use Rattle.std.specs.Prelude.{◌≡◌, refl, List, ℕ, [], ◌∷◌, codes, Some, None}
-use Rattle.control_guard.specs.Guard.{Own, Sent, asked_at, verdict}
+use Rattle.control_guard.specs.Guard.{Own, Sent, verdict}
 use Rattle.control_guard.specs.declared.request.Method.TheVariants.{Get, Post, Other}
-use Rattle.control_guard.specs.declared.path.Act.TheVariants.{End, EndNow}
-use Rattle.control_guard.specs.declared.table.Verdict.TheVariants.{Does, Refused}
+use Rattle.control_guard.specs.declared.asked.Act.TheVariants.{Disconnect, End, EndNow}
+use Rattle.control_guard.specs.declared.asked.View.TheVariants as views
+use Rattle.control_guard.specs.declared.table.Verdict.TheVariants.{Does, Refused, Shows}
 use Rattle.control_guard.specs.declared.table.Refusal.TheVariants.{ForeignHost, NoToken, ForeignOrigin, NoSuchPath}
 use Rattle.control_guard.specs.declared.table.Refusal.TheVariants.{WrongMethod}
 
@@ -12,16 +13,17 @@ abbrev hosts : List (List ℕ)
 hosts = codes "127.0.0.1:9100" ∷ codes "localhost:9100" ∷ []
 
 abbrev without_token : Own
-without_token = record { hosts = hosts; token = None }
+without_token = record { hosts = hosts; token = None; clients = 12 }
 
 abbrev with_token : Own
-with_token = record { hosts = hosts; token = Some (codes "0123456789abcdef") }
+with_token = record { hosts = hosts; token = Some (codes "0123456789abcdef"); clients = 12 }
 
 -- `curl -X POST http://127.0.0.1:9100/end`
 abbrev end : Sent
 end = record {
   method = Post;
-  asked = asked_at (codes "/end") None;
+  path = codes "/end";
+  query = None;
   host = Some (codes "127.0.0.1:9100");
   origin = None;
   token = None;
@@ -31,7 +33,7 @@ an_end_is_done : verdict without_token end ≡ Does End
 an_end_is_done = refl
 
 an_end_at_once_is_done :
-    verdict without_token (record end { asked = asked_at (codes "/end") (Some (codes "now")) }) ≡ Does EndNow
+    verdict without_token (record end { query = Some (codes "now") }) ≡ Does EndNow
 an_end_at_once_is_done = refl
 
 the_other_name_is_own : verdict without_token (record end { host = Some (codes "localhost:9100") }) ≡ Does End
@@ -67,11 +69,11 @@ a_token_that_nobody_asked_for : verdict without_token (record end { token = Some
 a_token_that_nobody_asked_for = refl
 
 -- paths and methods
-no_such_path : verdict without_token (record end { asked = asked_at (codes "/stop") None }) ≡ Refused NoSuchPath
+no_such_path : verdict without_token (record end { path = codes "/stop" }) ≡ Refused NoSuchPath
 no_such_path = refl
 
 an_end_with_another_query :
-    verdict without_token (record end { asked = asked_at (codes "/end") (Some (codes "later")) }) ≡ Refused NoSuchPath
+    verdict without_token (record end { query = Some (codes "later") }) ≡ Refused NoSuchPath
 an_end_with_another_query = refl
 
 an_end_that_is_got : verdict without_token (record end { method = Get }) ≡ Refused WrongMethod
@@ -106,16 +108,84 @@ another_name_with_the_token = refl
 
 -- the first row that holds counts
 a_foreign_name_before_all :
-    verdict with_token (record end { host = None; method = Get; asked = None }) ≡ Refused ForeignHost
+    verdict with_token (record end { host = None; method = Get; path = codes "/stop" }) ≡ Refused ForeignHost
 a_foreign_name_before_all = refl
 
-a_token_before_the_path : verdict with_token (record end { method = Get; asked = None }) ≡ Refused NoToken
+a_token_before_the_path : verdict with_token (record end { method = Get; path = codes "/stop" }) ≡ Refused NoToken
 a_token_before_the_path = refl
 
-a_path_before_the_method : verdict without_token (record end { method = Get; asked = None }) ≡ Refused NoSuchPath
+a_path_before_the_method : verdict without_token (record end { method = Get; path = codes "/stop" }) ≡ Refused NoSuchPath
 a_path_before_the_method = refl
 
 a_method_before_the_origin :
     verdict without_token (record end { method = Get; origin = Some (codes "http://evil.example") })
     ≡ Refused WrongMethod
 a_method_before_the_origin = refl
+
+-- what is shown
+abbrev page : Sent
+page = record end { method = Get; path = codes "/" }
+
+the_page_is_shown : verdict without_token page ≡ Shows views.Page
+the_page_is_shown = refl
+
+the_status_is_shown : verdict without_token (record page { path = codes "/status.json" }) ≡ Shows views.Json
+the_status_is_shown = refl
+
+metrics_are_shown : verdict without_token (record page { path = codes "/metrics" }) ≡ Shows views.Metrics
+metrics_are_shown = refl
+
+a_page_that_is_posted : verdict without_token (record page { method = Post }) ≡ Refused WrongMethod
+a_page_that_is_posted = refl
+
+a_page_with_a_query : verdict without_token (record page { query = Some (codes "x") }) ≡ Refused NoSuchPath
+a_page_with_a_query = refl
+
+a_page_without_the_token : verdict with_token page ≡ Refused NoToken
+a_page_without_the_token = refl
+
+a_page_by_a_foreign_name : verdict without_token (record page { host = Some (codes "evil.example:9100") })
+    ≡ Refused ForeignHost
+a_page_by_a_foreign_name = refl
+
+-- a picture on another site's page: it is sent, and a browser doesn't let that page read it
+a_page_for_another_site : verdict without_token (record page { origin = Some (codes "http://evil.example") })
+    ≡ Shows views.Page
+a_page_for_another_site = refl
+
+-- clients, of which there are twelve
+abbrev disconnect : List ℕ → Sent
+disconnect client = record end { path = codes "/disconnect"; query = Some client }
+
+the_first_client : verdict without_token (disconnect (codes "client=C1")) ≡ Does (Disconnect 1)
+the_first_client = refl
+
+the_last_client : verdict without_token (disconnect (codes "client=C12")) ≡ Does (Disconnect 12)
+the_last_client = refl
+
+one_client_too_many : verdict without_token (disconnect (codes "client=C13")) ≡ Refused NoSuchPath
+one_client_too_many = refl
+
+no_client_has_the_number_0 : verdict without_token (disconnect (codes "client=C0")) ≡ Refused NoSuchPath
+no_client_has_the_number_0 = refl
+
+no_number : verdict without_token (disconnect (codes "client=C")) ≡ Refused NoSuchPath
+no_number = refl
+
+a_number_and_more : verdict without_token (disconnect (codes "client=C1x")) ≡ Refused NoSuchPath
+a_number_and_more = refl
+
+a_port : verdict without_token (disconnect (codes "client=P1")) ≡ Refused NoSuchPath
+a_port = refl
+
+nobody_is_named : verdict without_token (record end { path = codes "/disconnect" }) ≡ Refused NoSuchPath
+nobody_is_named = refl
+
+a_disconnect_that_is_got : verdict without_token (record (disconnect (codes "client=C1")) { method = Get })
+    ≡ Refused WrongMethod
+a_disconnect_that_is_got = refl
+
+another_site_disconnects :
+    verdict without_token (record (disconnect (codes "client=C1")) { origin = Some (codes "http://evil.example") })
+    ≡ Refused ForeignOrigin
+another_site_disconnects = refl

@@ -1,4 +1,4 @@
-//! Who may have the control endpoint do something: a table over values, without a socket.
+//! Who may have the control endpoint show or do something: a table over values, without a socket.
 //!
 //! Its rows are `specs/Guard.antt`. What they keep out: pages of other sites in an operator's browser, which send a
 //! request from this very machine (by a name that the attacker's DNS gives, or with an `Origin` of their own), and
@@ -8,13 +8,14 @@
 //! Authentication Scheme"; RFC 6750, "Authorization Request Header Field".
 #![tactic(auto)]
 
+mod asked;
 mod path;
 mod request;
 mod secret;
 mod table;
 mod token;
 
-pub use path::Act;
+pub use asked::{Act, View};
 pub use request::{Method, Request, Rules};
 pub use table::{Refusal, Verdict, judged};
 pub use token::token_in;

@@ -32,4 +32,6 @@ pub struct Rules {
     pub hosts: Vec<Vec<u8>>,
     /// The token that each request has to give, where there is one.
     pub token: Option<Vec<u8>>,
+    /// How many clients there are: each can be disconnected by its number, from 1.
+    pub clients: u16,
 }

@@ -4,7 +4,8 @@ ghost use Rattle.std.specs.Prelude.{◌≡◌, bytes_eq, map, option_map};
 ghost use Rattle.std.specs.List.{list_any};
 ghost use Rattle.control_guard.specs.Guard as spec;
 
-use crate::path::{Act, asked_at};
+use crate::asked::{Act, Asked, View};
+use crate::path::asked_at;
 use crate::request::{Method, Request, Rules};
 use crate::secret::is_same_secret;
 
@@ -28,6 +29,8 @@ pub enum Refusal {
 pub enum Verdict {
     /// This is done.
     Does(Act),
+    /// This is shown.
+    Shows(View),
     /// Nothing, for this reason.
     Refused(Refusal),
 }
@@ -43,9 +46,20 @@ pub fn judged(request: &Request<'_>, rules: &Rules) -> Verdict
     if !gives_token(request.token, &rules.token) {
         return Verdict::Refused(Refusal::NoToken);
     }
-    match asked_at(request.path, request.query) {
+    match asked_at(rules.clients, request.path, request.query) {
         None => Verdict::Refused(Refusal::NoSuchPath),
-        Some(act) => does(act, request, rules),
+        Some(Asked::Show(view)) => shows(view, request),
+        Some(Asked::Do(act)) => does(act, request, rules),
+    }
+}
+
+/// What becomes of a request that something be shown. A page of another site may ask for it: it isn't let read it.
+fn shows(view: View, request: &Request<'_>) -> Verdict
+    ensures { result ≡ spec.verdict_to_view view request.now.method }
+{
+    match request.method {
+        Method::Get => Verdict::Shows(view),
+        Method::Post | Method::Other => Verdict::Refused(Refusal::WrongMethod),
     }
 }
 

@@ -4,8 +4,8 @@ use base64::DecodeAllocError;
 use base64::engine::general_purpose::STANDARD;
 use std::alloc::{AllocError, Global};
 
-/// The token that an `Authorization` gives: what stands behind `Bearer `, or as the password of `Basic `, which a browser
-/// asks its user for. `None` of anything else.
+/// The token that an `Authorization` gives: what stands behind `Bearer `, or as the password of `Basic `, which a
+/// browser asks its user for. `None` of anything else.
 pub fn token_in(alloc: Global, value: &[u8]) -> Result<Option<Vec<u8>>, AllocError> {
     if let Some(token) = value.strip_prefix(b"Bearer ") {
         return Ok(Some(Vec::from_slice(alloc, token)?));

@@ -10,8 +10,17 @@ pub use Rattle.desk_ends.proofs.Sent.{inlet_send, outlet_send}
 use Rattle.desk_ends.specs.declared.name.DeskName as DeskName
 use Rattle.desk_steps.specs.desk_side.contracts.side.Side as Side
 use Rattle.desk_steps.proofs.Sent.{recorded_send}
+use Rattle.host_log.specs.contracts.host_file.HostFile as HostFile
+use Rattle.host_log.specs.contracts.host_file.HostFileLogFile as HostFileLogFile
+use Rattle.turn_log.specs.contracts.log.TurnLog as TurnLog
 use Rattle.desk.specs.contracts.desk_value.Desk as Desk
 use Rattle.desk.specs.contracts.shared.Shared as Shared
+
+host_file_send : IsSend HostFile.the_row
+host_file_send = search (sendable, crosses) depth 100 fits 500000
+
+turn_log_send : IsSend (TurnLog.the_row HostFile.the_row HostFileLogFile.TheImpl.ghosts)
+turn_log_send = search (host_file_send, sendable, crosses) depth 100 fits 500000
 
 side_send : IsSend Side.the_row
 side_send = search (seat_send, way_send, sendable, crosses) depth 100 fits 500000
@@ -20,7 +29,7 @@ module _ (K S T : RattleType) (k : DeskName.Ghosts K.Denot) where
   module _ (g : BuildHasher.Ghosts S.Denot T.Denot) (h : Hasher.Ghosts T.Denot) (s : IsSend S) where
     desk_send : IsSend (Desk.the_row K S T k g h)
     desk_send = view_send _ _ _ _ _ (declared_send (Desk.TheInside.the_type K S T k g h)
-        (recorded_send S T g h s, (side_send, (search (sendable, crosses) depth 40, tt))))
+        (recorded_send S T g h s, (side_send, (search (turn_log_send, sendable, crosses) depth 40, (search (sendable, crosses) depth 40, tt)))))
 
     pub shared_sync : IsSync (Shared.the_row K S T k g h)
     shared_sync = search (desk_send, sendable, crosses) depth 100 fits 500000

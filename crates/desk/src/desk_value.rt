@@ -1,19 +1,28 @@
 //! What lies under the lock.
 
 use desk_ends::{DeskName, Finished};
-use desk_steps::{History, PortFault, RecordedCore, Settings, Side, Turned, round, settle};
+use desk_steps::{History, PortFault, RecordedCore, Settings, Side, Status, Turned, round, settle};
+use fix_fields::Fields;
+use fix_session::LogonFault;
+use gate_events::{ClientNumber, Event};
+use host_log::HostFile;
+use same_days::first_other;
 use std::alloc::{AllocError, Global};
 use std::hash::{BuildHasher, BuildHasherDefault, FoldHasher};
 use std::marker::{Model, PhantomData};
+use turn_log::{DayLog, LogFault, TurnLog};
 
 /// What lies under the lock of a desk: the core with its history, and the desk's side of the rings. Contracts see both.
 ///
 /// Its type keeps that they agree, whichever thread had the lock: the core is the one that the history leaves, with all
 /// that is promised of that; the ends are those that the desk's name names; what came out of an inlet's ring is what
 /// the history has of its source; what went into an outlet's ring is what the batches told it, or a beginning of that.
+///
+/// Where it has a journal, what a step tells waits beside the rings until the step is in the journal's file, durably.
 pub struct Desk<K: DeskName, S: BuildHasher + Drop = BuildHasherDefault<FoldHasher>> {
     recorded: RecordedCore<S>,
     side: Side,
+    journal: Option<TurnLog<HostFile>>,
     of: PhantomData<K>,
 }
 
@@ -23,6 +32,7 @@ impl<K: DeskName, S: BuildHasher + Drop> Drop for Desk<K, S> {
         let Desk {
             recorded: _,
             side: _,
+            journal: _,
             of: _,
         } = self;
     }
@@ -38,18 +48,23 @@ impl<K: DeskName, S: BuildHasher + Drop> Model for Desk<K, S> {
     ghost invariant = { λ d. Agrees K.inlets K.outlets (record { recorded = d.recorded; side = d.side }) };
 }
 
-/// What is left of a desk that was closed: its history, and the settings of its core.
+/// What is left of a desk that was closed: its history, the settings of its core, and why its journal doesn't have all,
+/// if it had one that doesn't.
 #[derive(Drop)]
 pub struct Closed {
     pub history: History,
     pub settings: Settings,
+    pub lost: Option<LogFault>,
 }
 
 impl<K: DeskName, S: BuildHasher + Drop> Desk<K, S> {
-    ghost use Rattle.std.specs.Prelude.{◌≡◌, IfOk, OnOk, OnErr};
+    ghost use Rattle.std.specs.Prelude.{◌≡◌, IfOk, MatchOption, OnOk, OnErr};
+    ghost use Rattle.same_days.specs.Same.{IsOtherAt, IsSameDay};
     ghost use Rattle.gate_law.specs.After.{lists};
     ghost use Rattle.gate_law.specs.Holds.{Holds};
-    ghost use Rattle.desk_steps.specs.gate_core.Expected.{fault_now};
+    ghost use Rattle.desk_steps.specs.gate_core.Board.{IsBoard};
+    ghost use Rattle.desk_steps.specs.gate_core.Expected.{event_due, fault_now, logon_fault_now};
+    ghost use Rattle.gate_events.specs.Seen.{event_seen};
     ghost use Rattle.desk_steps.specs.gate_journal.Kept.{turns};
     ghost use Rattle.desk_steps.specs.Agreeing.{Agrees, AreNamed};
     ghost use Rattle.desk_steps.specs.Settling.{AreSettled, HistoryGoesOn};
@@ -63,15 +78,64 @@ impl<K: DeskName, S: BuildHasher + Drop> Desk<K, S> {
         Desk {
             recorded,
             side,
+            journal: None,
             of: PhantomData,
         }
+    }
+
+    /// From now on what is stepped is written into this log before anybody is told: the log has all of the history so
+    /// far. `AllocError` gives the log up, and leaves the desk without one.
+    pub(crate) fn begin_journal(&mut self, log: DayLog<HostFile>) -> Result<(), AllocError>
+        ensures { self.new ≡ self.old }
+    {
+        self.side.stage()?;
+        self.journal = Some(TurnLog::of(log, self.recorded.history()));
+        Ok(())
+    }
+
+    /// Has all that was stepped in the journal, durably, and then lets out what it told. Where there is none it does
+    /// nothing. `Failed` where the journal's file fails, and from then on: nobody is told anything any more. `NoMemory`
+    /// leaves all as it was.
+    pub(crate) fn keep(&mut self, alloc: Global) -> Result<(), LogFault>
+        ensures recorded { self.new.recorded ≡ self.old.recorded }
+    {
+        let Some(journal) = &mut self.journal else {
+            return Ok(());
+        };
+        journal.keep(alloc, self.recorded.history())?;
+        self.side.release();
+        Ok(())
+    }
+
+    /// Whether it has a journal.
+    pub(crate) fn has_journal(&self) -> bool {
+        self.journal.is_some()
+    }
+
+    /// Ends the journal, where there is one: it has all, and its end.
+    pub(crate) fn end_journal(&mut self) -> Result<(), LogFault>
+        ensures recorded { self.new.recorded ≡ self.old.recorded }
+    {
+        match &mut self.journal {
+            Some(journal) => journal.end(),
+            None => Ok(()),
+        }
+    }
+
+    /// `None` where the history has just the events and batches of this day; else how many batches are the same before
+    /// the first that differs.
+    pub(crate) fn first_other(&self, day: &History) -> Option<u64>
+        ensures { MatchOption result (IsSameDay self.now.recorded.kept day.now)
+            (λ place. IsOtherAt place self.now.recorded.kept day.now) }
+    {
+        first_other(self.recorded.history(), day)
     }
 
     /// Goes once round the inlets, in order, and steps an event of each at most. An event waits where a ring is full to
     /// somebody whom its batch may tell something, and is dropped where it isn't of its inlet's source.
     ///
-    /// Where memory is refused the event stays first in its inlet's ring, and the round ends. `AllocError` comes only
-    /// where that was the first step that was tried.
+    /// Where memory is refused the event stays first in its inlet's ring, and the other inlets have their turns.
+    /// `AllocError` comes where it was refused for one, and no step was made.
     pub fn round(&mut self, alloc: Global) -> Result<Turned, AllocError>
         ensures ok { IfOk result (λ turned. Rounds turned self.old self.new) }
         ensures err { OnErr result (RoundIsRefused self.old self.new) }
@@ -94,12 +158,36 @@ impl<K: DeskName, S: BuildHasher + Drop> Desk<K, S> {
         self.side.take_waiting()
     }
 
+    /// Whether this event is none that only says that time passes and gives nothing (`Core::is_due`). Takes no memory.
+    pub fn is_due(&self, alloc: Global, event: &Event) -> bool
+        ensures { result ≡ event_due self.now.recorded.settings
+            (lists self.now.recorded.settings (turns self.now.recorded.kept)) (event_seen event.now) }
+    {
+        self.recorded.is_due(alloc, event)
+    }
+
+    /// Why a frame of a client's link that isn't logged on is answered by the link's end alone (`Core::logon_fault`).
+    /// Takes no memory.
+    pub fn logon_fault(&self, client: ClientNumber, frame: &Fields) -> Option<LogonFault>
+        ensures { result ≡ logon_fault_now self.now.recorded.settings client
+            ((lists self.now.recorded.settings (turns self.now.recorded.kept)).client_calls client) frame.now }
+    {
+        self.recorded.logon_fault(client, frame)
+    }
+
     /// Why a port is faulted; `None` of one that isn't, and of one that the settings don't have. Takes no memory.
     pub fn port_fault(&self, port: u16) -> Option<PortFault>
         ensures { result ≡ fault_now self.now.recorded.settings port
             ((lists self.now.recorded.settings (turns self.now.recorded.kept)).port_calls port) }
     {
         self.recorded.port_fault(port)
+    }
+
+    /// How all clients and ports stand now. It goes through no order.
+    pub fn status(&self, alloc: Global) -> Result<Status, AllocError>
+        ensures { IfOk result (λ status. IsBoard self.now.recorded.settings (turns self.now.recorded.kept) status) }
+    {
+        self.recorded.status(alloc)
     }
 
     /// The history so far: all that is promised holds of it.
@@ -127,7 +215,7 @@ impl<K: DeskName, S: BuildHasher + Drop> Desk<K, S> {
     }
 
     /// Ends the desk. All that is promised holds of its history, which has no events but those of the inlets' sources.
-    pub(crate) fn close(self) -> Closed
+    pub(crate) fn close(self, lost: Option<LogFault>) -> Closed
         ensures history { result.history ≡ self.recorded.kept }
         ensures settings { result.settings ≡ self.recorded.settings }
         ensures holds { Holds result.settings (turns result.history) }
@@ -136,9 +224,14 @@ impl<K: DeskName, S: BuildHasher + Drop> Desk<K, S> {
         let Desk {
             recorded,
             side: _,
+            journal: _,
             of: _,
         } = self;
         let (settings, history) = recorded.into_parts();
-        Closed { history, settings }
+        Closed {
+            history,
+            settings,
+            lost,
+        }
     }
 }

@@ -11,8 +11,10 @@ mod shared;
 mod told_outlets;
 
 pub use desk_ends::{DeskName, Finished, Inlet, Outlet, Recipient};
-pub use desk_steps::Turned;
+pub use desk_steps::{History, Status, Turned};
 pub use desk_value::{Closed, Desk};
+pub use host_log::HostFile;
 pub use opening::{Parts, open_desk};
 pub use shared::{Shared, Turns};
 pub use told_outlets::{ToldOutlets, WriteTold};
+pub use turn_log::{DayLog, LogFault};

@@ -1,18 +1,28 @@
 //! A desk that threads share.
 
+ghost use Rattle.std.specs.Prelude.{◌≡◌};
+
 use crate::desk_value::{Closed, Desk};
 use crate::told_outlets::{ToldOutlets, WriteTold};
 use desk_ends::{DeskName, Finished};
-use desk_steps::{PortFault, Turned};
+use desk_steps::{History, PortFault, Status, Turned};
+use fix_fields::Fields;
+use fix_session::LogonFault;
+use gate_events::{ClientNumber, Event};
+use host_log::HostFile;
 use std::alloc::{AllocError, Global};
 use std::hash::{BuildHasher, BuildHasherDefault, FoldHasher};
 use std::sync::atomic::{AtomicBool, Ordering};
 use std::sync::{Mutex, MutexGuard, Wait};
 use std::thread::Parker;
 use std::time::Duration;
+use turn_log::{DayLog, LogFault};
 
 /// So many rounds are made under one lock at most, before what they told is written.
 const UNDER_ONE_LOCK: u32 = 8;
+
+/// The same where there is a journal: one write and one sync are behind them all.
+const UNDER_ONE_SYNC: u32 = 64;
 
 /// So many rounds step what lies in a ring: it has as many places.
 const FOR_OTHERS: u32 = 1_024;
@@ -36,6 +46,10 @@ pub struct Shared<K: DeskName, S: BuildHasher + Drop = BuildHasherDefault<FoldHa
     desk: Mutex<Desk<K, S>>,
     /// Rounds are wanted until one makes no step: by a thread that found the lock taken, or that stopped before.
     wanted: AtomicBool,
+    /// Memory was refused for an event in the rounds that were made last.
+    is_refused: AtomicBool,
+    /// The journal's file failed: no more rounds are made, and nobody is told anything any more.
+    is_lost: AtomicBool,
     bells: Vec<Parker>,
 }
 
@@ -45,6 +59,8 @@ impl<K: DeskName, S: BuildHasher + Drop> Drop for Shared<K, S> {
         let Shared {
             desk: _,
             wanted: _,
+            is_refused: _,
+            is_lost: _,
             bells: _,
         } = self;
     }
@@ -62,6 +78,8 @@ impl<K: DeskName, S: BuildHasher + Drop> Shared<K, S> {
         Shared {
             desk: Mutex::new(desk),
             wanted: AtomicBool::new(false),
+            is_refused: AtomicBool::new(false),
+            is_lost: AtomicBool::new(false),
             bells,
         }
     }
@@ -78,8 +96,8 @@ impl<K: DeskName, S: BuildHasher + Drop> Shared<K, S> {
     /// the lock free, `writer` writes what they told: all that eight rounds told an outlet lies there then.
     ///
     /// It waits for nobody but `writer`. Where another thread has the lock, that one makes rounds until one makes no
-    /// step once it is free, and none is counted here. `AllocError` comes only where memory is refused before a round
-    /// made a step.
+    /// step once it is free, and none is counted here. `AllocError` comes only where memory is refused for an event and
+    /// no round made a step.
     pub fn turns<T: WriteTold>(
         &self,
         alloc: Global,
@@ -99,13 +117,17 @@ impl<K: DeskName, S: BuildHasher + Drop> Shared<K, S> {
                 left = FOR_OTHERS;
             }
             let desk = &mut *guard;
-            let made = rounds(desk, alloc, left.min(UNDER_ONE_LOCK), &mut turns);
-            let told = ToldOutlets::of_bits(desk.take_rung());
+            let Some(most) = self.most_rounds(desk) else {
+                return Ok(turns);
+            };
+            let made = rounds(desk, alloc, left.min(most), &mut turns);
+            let told = self.told_by(desk, alloc);
             drop(guard);
             writer.write_told(alloc, told);
+            self.note_memory(&made);
             left = match made {
-                Ok(true) => left.saturating_sub(UNDER_ONE_LOCK),
-                Ok(false) => 0,
+                Ok(made) if made.is_all => left.saturating_sub(most),
+                Ok(_) => 0,
                 Err(error) => {
                     let _ = self.wanted.swap(true, Ordering::SeqCst);
                     return if turns.rounds == 0 {
@@ -124,6 +146,22 @@ impl<K: DeskName, S: BuildHasher + Drop> Shared<K, S> {
         }
         let _ = self.wanted.swap(true, Ordering::SeqCst);
         Ok(turns)
+    }
+
+    /// Notes whether memory was refused for an event in these rounds.
+    fn note_memory(&self, made: &Result<Made, AllocError>) {
+        let is_refused = match made {
+            Ok(made) => made.is_refused,
+            Err(_) => true,
+        };
+        if self.is_refused.load(Ordering::SeqCst) != is_refused {
+            self.is_refused.store(is_refused, Ordering::SeqCst);
+        }
+    }
+
+    /// Whether memory was refused for an event in the rounds that were made last: it waits first in its ring.
+    pub fn is_memory_refused(&self) -> bool {
+        self.is_refused.load(Ordering::SeqCst)
     }
 
     /// The lock, where it is free; else nothing, and who has it knows that rounds are wanted.
@@ -145,8 +183,83 @@ impl<K: DeskName, S: BuildHasher + Drop> Shared<K, S> {
     ) -> Result<(Turned, ToldOutlets), AllocError> {
         let mut guard = self.desk.lock(rt);
         let desk = &mut *guard;
+        if self.is_journal_lost() {
+            return Ok((
+                Turned {
+                    steps: 0,
+                    held: 0,
+                    refused: 0,
+                },
+                ToldOutlets::of_bits(0),
+            ));
+        }
         let turned = desk.round(alloc)?;
-        Ok((turned, ToldOutlets::of_bits(desk.take_rung())))
+        Ok((turned, self.told_by(desk, alloc)))
+    }
+
+    /// How many rounds are made under one lock at most; none any more where the journal is lost.
+    fn most_rounds(&self, desk: &Desk<K, S>) -> Option<u32> {
+        if self.is_journal_lost() {
+            return None;
+        }
+        Some(if desk.has_journal() {
+            UNDER_ONE_SYNC
+        } else {
+            UNDER_ONE_LOCK
+        })
+    }
+
+    /// Has what was stepped in the journal, where there is one, and gives the outlets that were told something that
+    /// isn't to wait. None where it couldn't be kept: then nobody has it yet. Where memory was refused for it, it is
+    /// tried again; where the file failed, never.
+    fn told_by(&self, desk: &mut Desk<K, S>, alloc: Global) -> ToldOutlets {
+        match desk.keep(alloc) {
+            Ok(()) => ToldOutlets::of_bits(desk.take_rung()),
+            Err(LogFault::NoMemory) => {
+                let _ = self.wanted.swap(true, Ordering::SeqCst);
+                ToldOutlets::of_bits(0)
+            }
+            Err(LogFault::Failed | LogFault::Ended) => {
+                self.is_lost.store(true, Ordering::SeqCst);
+                ToldOutlets::of_bits(0)
+            }
+        }
+    }
+
+    /// Whether the journal's file failed: no round is made any more, and nobody is told anything.
+    pub fn is_journal_lost(&self) -> bool {
+        self.is_lost.load(Ordering::SeqCst)
+    }
+
+    /// From now on what is stepped is in this log, durably, before anybody is told, once the lock could be had. The log
+    /// has all of the history so far. `AllocError` gives the log up.
+    pub fn begin_journal(&self, rt: &impl Wait, log: DayLog<HostFile>) -> Result<(), AllocError> {
+        let mut guard = self.desk.lock(rt);
+        let desk = &mut *guard;
+        desk.begin_journal(log)
+    }
+
+    /// `None` where the history has just the events and the batches of this day; else how many batches are the same
+    /// before the first that differs. It waits for the lock.
+    pub fn first_other(&self, rt: &impl Wait, day: &History) -> Option<u64> {
+        let guard = self.desk.lock(rt);
+        let desk = &*guard;
+        desk.first_other(day)
+    }
+
+    /// A round, and the outlets that it told something: nobody's bell rings, and nothing is written. For who steps a
+    /// day again before anybody is served.
+    pub fn turn_alone(
+        &self,
+        rt: &impl Wait,
+        alloc: Global,
+    ) -> Result<(Turned, ToldOutlets), AllocError> {
+        let mut guard = self.desk.lock(rt);
+        let desk = &mut *guard;
+        let turned = desk.round(alloc)?;
+        let prompt = self.told_by(desk, alloc);
+        let waiting = ToldOutlets::of_bits(desk.take_waiting());
+        Ok((turned, prompt.and(waiting)))
     }
 
     /// Rings the bells of the outlets that were told something that may wait, and nothing since that isn't to
@@ -191,11 +304,39 @@ impl<K: DeskName, S: BuildHasher + Drop> Shared<K, S> {
         }
     }
 
+    /// Whether this event is none that only says that time passes and gives nothing (`Core::is_due`), once the lock
+    /// could be had.
+    pub fn is_due(&self, rt: &impl Wait, alloc: Global, event: &Event) -> bool {
+        let guard = self.desk.lock(rt);
+        let desk = &*guard;
+        desk.is_due(alloc, event)
+    }
+
+    /// Why a frame of a client's link that isn't logged on is answered by the link's end alone (`Core::logon_fault`), once
+    /// the lock could be had.
+    pub fn logon_fault(
+        &self,
+        rt: &impl Wait,
+        client: ClientNumber,
+        frame: &Fields,
+    ) -> Option<LogonFault> {
+        let guard = self.desk.lock(rt);
+        let desk = &*guard;
+        desk.logon_fault(client, frame)
+    }
+
     /// Why a port is faulted, once the lock could be had; `None` of one that isn't.
     pub fn port_fault(&self, rt: &impl Wait, port: u16) -> Option<PortFault> {
         let guard = self.desk.lock(rt);
         let desk = &*guard;
         desk.port_fault(port)
+    }
+
+    /// How all clients and ports stand at one moment, once the lock could be had. It goes through no order.
+    pub fn status(&self, rt: &impl Wait, alloc: Global) -> Result<Status, AllocError> {
+        let guard = self.desk.lock(rt);
+        let desk = &*guard;
+        desk.status(alloc)
     }
 
     /// Ends the desk: steps what is left of what finished inlets put, and gives the history and the settings.
@@ -216,12 +357,17 @@ impl<K: DeskName, S: BuildHasher + Drop> Shared<K, S> {
         let Shared {
             desk,
             wanted: _,
+            is_refused: _,
+            is_lost: _,
             bells,
         } = self;
         let mut desk = desk.into_inner();
         let mut finished = finished;
         match desk.settle(alloc, &mut finished) {
-            Ok(()) => Ok(desk.close()),
+            Ok(()) => match end_journal(&mut desk, alloc) {
+                Ok(lost) => Ok(desk.close(lost)),
+                Err(error) => Err((error, Shared::new(desk, bells), finished)),
+            },
             Err(error) => Err((error, Shared::new(desk, bells), finished)),
         }
     }
@@ -234,21 +380,57 @@ impl<K: DeskName, S: BuildHasher + Drop> WriteTold for Shared<K, S> {
     }
 }
 
-/// Rounds, so many at most, until one makes no step, beside those that were made: whether all of them made one.
-/// `AllocError` leaves those that made one counted.
+/// What rounds came to.
+#[derive(Clone, Copy)]
+struct Made {
+    /// Each of them made a step.
+    is_all: bool,
+    /// Memory was refused for an event in the last of them.
+    is_refused: bool,
+}
+
+/// Rounds, so many at most, until one makes no step, beside those that were made. `AllocError` leaves those that made
+/// one counted.
 fn rounds<K: DeskName, S: BuildHasher + Drop>(
     desk: &mut Desk<K, S>,
     alloc: Global,
     most: u32,
     turns: &mut Turns,
-) -> Result<bool, AllocError> {
+) -> Result<Made, AllocError> {
+    let mut is_refused = false;
     for _ in 0..most {
         let turned = desk.round(alloc)?;
+        is_refused = turned.refused != 0;
         if turned.steps == 0 {
-            return Ok(false);
+            return Ok(Made {
+                is_all: false,
+                is_refused,
+            });
         }
         turns.rounds = turns.rounds.saturating_add(1);
         turns.steps = turns.steps.saturating_add(turned.steps);
     }
-    Ok(true)
+    Ok(Made {
+        is_all: true,
+        is_refused,
+    })
+}
+
+/// Has all in the journal, with its end, where there is one, and gives why it couldn't. Where memory is refused it may
+/// be tried again.
+fn end_journal<K: DeskName, S: BuildHasher + Drop>(
+    desk: &mut Desk<K, S>,
+    alloc: Global,
+) -> Result<Option<LogFault>, AllocError>
+    ensures { desk.new.recorded ≡ desk.old.recorded }
+{
+    let kept = match desk.keep(alloc) {
+        Ok(()) => desk.end_journal(),
+        Err(fault) => Err(fault),
+    };
+    match kept {
+        Ok(()) => Ok(None),
+        Err(LogFault::NoMemory) => Err(AllocError),
+        Err(fault) => Ok(Some(fault)),
+    }
 }

@@ -15,6 +15,13 @@ impl ToldOutlets {
         ToldOutlets { bits }
     }
 
+    /// Those of either.
+    pub(crate) fn and(self, others: ToldOutlets) -> ToldOutlets {
+        ToldOutlets {
+            bits: self.bits | others.bits,
+        }
+    }
+
     /// Whether there is none.
     pub fn is_empty(self) -> bool {
         self.bits == 0

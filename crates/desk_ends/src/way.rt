@@ -1,7 +1,13 @@
 //! The desk's end of an outlet's ring.
 
+ghost use Rattle.std.specs.Prelude.{◌≡◌, ◌≤◌, [], true, false};
+ghost use Rattle.std.specs.VecDeque.{deque_capacity, deque_len};
+ghost use Rattle.rtrb.specs.Ring.{known_free, producer_capacity};
+
 use gate_events::{Recipient, Told};
 use rtrb::{Consumer, Producer};
+use std::alloc::{AllocError, Global};
+use std::collections::VecDeque;
 use std::marker::Model;
 
 /// The desk's end of an outlet's ring, by which lists go into it. Contracts see its ring and whom its lists are for,
@@ -9,14 +15,25 @@ use std::marker::Model;
 ///
 /// It is cut once a list for its recipient found no room: that list and each later one stand in the history alone, so
 /// what goes out of the ring stays a beginning of what there was.
+///
+/// A way that stages keeps lists beside its ring, where nobody can take them, until they are released: then they go
+/// into the ring, in their order. Contracts see what is staged as what went in, and its places as no longer free.
 #[derive(Drop)]
 pub struct Way {
     to: Recipient,
     producer: Producer<Told>,
+    /// The lists that aren't in the ring yet, the oldest first.
+    staged: VecDeque<Told>,
+    stages: bool,
     cut: bool,
+    ghost held: { stages ≡ true → producer_capacity producer ≤ deque_capacity staged },
+    ghost fit: { deque_len staged ≤ known_free producer },
+    ghost none: { stages ≡ false → staged.items ≡ [] },
 }
 
 impl Model for Way {
+    ghost use Rattle.std.specs.Prelude.{◌++◌, ◌-◌};
+    ghost use Rattle.std.specs.VecDeque.{deque_len};
     ghost use Rattle.rtrb.specs.Ring.{sent, known_free};
     ghost use Rattle.desk_ends.specs.Rings.{producer_ring};
     ghost use Rattle.desk_ends.specs.Seats.{WayState};
@@ -25,8 +42,8 @@ impl Model for Way {
 
     ghost view = { λ w. record {
       name = record { to = w.to; ring = producer_ring w.producer };
-      sent = sent w.producer;
-      free = known_free w.producer;
+      sent = sent w.producer ++ w.staged.items;
+      free = known_free w.producer - deque_len w.staged;
       cut = w.cut;
     } };
 }
@@ -39,8 +56,8 @@ impl Way {
     ghost use Rattle.desk_ends.specs.Rings.{consumer_ring, producer_ring};
     ghost use Rattle.desk_ends.specs.Seats.{WayLooked, WaySent};
 
-    /// The end of a ring by which a recipient is told lists. It isn't cut.
-    pub fn new(to: Recipient, producer: Producer<Told>) -> Way
+    /// The end of a ring by which a recipient is told lists. It isn't cut, and stages nothing. Takes no memory.
+    pub fn new(alloc: Global, to: Recipient, producer: Producer<Told>) -> Way
         ensures name { result.name ≡ record { to = to; ring = producer_ring producer } }
         ensures lists { (result.sent ≡ sent producer) × (result.free ≡ known_free producer) }
         ensures whole { result.cut ≡ false }
@@ -48,7 +65,31 @@ impl Way {
         Way {
             to,
             producer,
+            staged: VecDeque::new(alloc),
+            stages: false,
             cut: false,
+        }
+    }
+
+    /// From now on it stages what it is sent. `AllocError` leaves it as it was; the room for what is staged is taken
+    /// here, so that no list takes memory.
+    pub fn stage(&mut self) -> Result<(), AllocError>
+        ensures { self.new ≡ self.old }
+    {
+        let capacity = self.producer.capacity();
+        self.staged.reserve(capacity)?;
+        self.stages = true;
+        Ok(())
+    }
+
+    /// What is staged goes into the ring, in its order. Takes no memory.
+    pub fn release(&mut self)
+        ensures { WayLooked self.old self.new }
+    {
+        for _ in 0..self.staged.len() {
+            if let Some(told) = self.staged.pop_front() {
+                self.producer.push_reserved(told);
+            }
         }
     }
 
@@ -65,7 +106,10 @@ impl Way {
         ensures looked { WayLooked self.old self.new }
         ensures value { IsTrue result ↔ ((self.new.cut ≡ false) × (self.new.free ≤ kept_free)) }
     {
-        !self.cut && self.producer.cached_slots() <= kept_free && self.producer.slots() <= kept_free
+        let staged = self.staged.len();
+        !self.cut
+            && self.producer.cached_slots() - staged <= kept_free
+            && self.producer.slots() - staged <= kept_free
     }
 
     /// For how many lists more there is room, after a look into the ring: as many as can be counted where the way is
@@ -77,7 +121,8 @@ impl Way {
         if self.cut {
             usize::MAX
         } else {
-            self.producer.slots()
+            let staged = self.staged.len();
+            self.producer.slots() - staged
         }
     }
 
@@ -89,7 +134,15 @@ impl Way {
         if self.cut || told.as_slice().is_empty() {
             return;
         }
-        if self.producer.push(told).is_err() {
+        if !self.stages {
+            if self.producer.push(told).is_err() {
+                self.cut = true;
+            }
+            return;
+        }
+        if self.staged.len() < self.producer.slots() {
+            self.staged.push_back_reserved(told);
+        } else {
             self.cut = true;
         }
     }

@@ -1,1 +1,2 @@
 pub use Rattle.desk.specs as desk
+pub mod Since

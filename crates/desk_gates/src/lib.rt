@@ -9,7 +9,10 @@ mod outlet_pen;
 mod told_pens;
 
 pub use bell::BellClock;
-pub use desk::{Closed, DeskName, Finished, Inlet, Outlet, Parts, Shared, open_desk};
+pub use desk::{
+    Closed, DayLog, DeskName, Finished, HostFile, Inlet, Outlet, Parts, Shared, ToldOutlets,
+    open_desk,
+};
 pub use gate_workers::{Clock, Gate, Prompt};
 pub use inlet::InletGate;
 pub use outlet::OutletGate;

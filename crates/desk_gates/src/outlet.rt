@@ -1,10 +1,13 @@
 //! An outlet as a gate.
 
+ghost use Rattle.desk_gates.specs.Since.{Earlier};
+
 use crate::outlet_pen::OutletEnd;
 use desk::{DeskName, Finished, Outlet, Recipient, Shared};
 use gate_workers::{Event, Gate, LinkOut, ShortList};
 use std::alloc::{AllocError, Global};
 use std::hash::{BuildHasher, BuildHasherDefault, FoldHasher};
+use std::snapshot::Snapshot;
 use std::sync::Wait;
 
 /// So many lists in an outlet's ring hold a client's messages.
@@ -19,20 +22,27 @@ pub struct OutletGate<'a, K: DeskName, S: BuildHasher + Drop = BuildHasherDefaul
     /// The lists that were taken since none lay there, or since the last turn: a turn that is owed isn't forgotten
     /// where none lies there.
     in_a_row: u32,
+    /// The outlet as it came: for contracts alone.
+    first: Snapshot<Outlet<K>>,
+    ghost since: { Earlier first.value outlet },
 }
 
 impl<'a, K: DeskName, S: BuildHasher + Drop> OutletGate<'a, K, S> {
-    ghost use Rattle.std.specs.Prelude.{◌≡◌};
+    ghost use Rattle.std.specs.Prelude.{◌≡◌, []};
     ghost use Rattle.desk.specs.desk_ends.Rings.{took_at};
+    ghost use Rattle.desk_gates.specs.Since.{took_since};
 
-    /// The gate over an outlet of this desk. Takes no memory.
+    /// The gate over an outlet of this desk. What was taken before isn't taken through it. Takes no memory.
     pub fn new(shared: &'a Shared<K, S>, outlet: Outlet<K>) -> OutletGate<'a, K, S>
-        ensures { result.outlet ≡ outlet }
+        ensures outlet { result.outlet ≡ outlet }
+        ensures fresh { took_since result.first.value result.outlet ≡ [] }
     {
+        let first = Snapshot::of(&outlet);
         OutletGate {
             shared,
             outlet,
             in_a_row: 0,
+            first,
         }
     }
 
@@ -44,6 +54,7 @@ impl<'a, K: DeskName, S: BuildHasher + Drop> OutletGate<'a, K, S> {
             shared: _,
             outlet,
             in_a_row: _,
+            first: _,
         } = self;
         outlet.finish()
     }
@@ -51,10 +62,11 @@ impl<'a, K: DeskName, S: BuildHasher + Drop> OutletGate<'a, K, S> {
 
 impl<'a, K: DeskName, S: BuildHasher + Drop> Gate for OutletGate<'a, K, S> {
     ghost use Rattle.std.specs.Prelude.{[]};
+    ghost use Rattle.desk_gates.specs.Since.{took_since};
 
     ghost was_put = { λ g. [] };
 
-    ghost was_taken = { λ g. g.outlet.took };
+    ghost was_taken = { λ g. took_since g.first.value g.outlet };
 
     /// An outlet takes no event: it is given back, always.
     fn put(&mut self, event: Event) -> Result<(), Event> {

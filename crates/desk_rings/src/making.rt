@@ -46,7 +46,7 @@ pub fn told_rings(
     let mut rings = VecDeque::new(alloc);
     for to in recipients {
         let (producer, consumer) = RingBuffer::new(alloc, LISTS)?;
-        ways.push(Way::new(*to, producer))?;
+        ways.push(Way::new(alloc, *to, producer))?;
         rings.push_back(ToldRing { to: *to, consumer })?;
     }
     Ok((ways, rings))

@@ -4,9 +4,12 @@ ghost use Rattle.std.specs.Prelude.{◌≡◌};
 
 use crate::places::{client_number, place_of_client, place_of_port, port_number};
 use crate::said::Said;
-use crate::slots::{is_empty_at, is_full_at, least_room, pop_at, send_at};
+use crate::slots::{
+    is_empty_at, is_full_at, least_room, pop_at, release_each, send_at, stage_each,
+};
 use desk_ends::{DeskName, Finished, Seat, Way};
 use gate_events::{Event, Source, Told};
+use std::alloc::AllocError;
 use std::marker::Model;
 
 /// All rings of a desk, from the desk's side: a seat for each client, each port and the clock, and a way for each
@@ -186,6 +189,23 @@ impl Side {
         self.waiting |= waiting;
         send_at(&mut self.ways, client, client_told);
         send_at(&mut self.ways, port, port_told);
+    }
+
+    /// From now on what is said waits beside the rings until it is released. `AllocError` leaves some ways as they were:
+    /// it may be called again.
+    pub fn stage(&mut self) -> Result<(), AllocError>
+        ensures { self.new ≡ self.old }
+    {
+        stage_each(&mut self.ways)
+    }
+
+    /// What waits beside the rings goes into them. Takes no memory.
+    pub fn release(&mut self)
+        ensures seats { self.new.seats ≡ self.old.seats }
+        ensures ways { WaysLooked self.old.ways self.new.ways }
+        ensures counts { (self.new.clients ≡ self.old.clients) × (self.new.ports ≡ self.old.ports) }
+    {
+        release_each(&mut self.ways);
     }
 
     /// The ways to which something was told since the last call that isn't to wait: a bit for each, by position. A

@@ -7,6 +7,7 @@ ghost use Rattle.desk_side.specs.Side.{AllKnowRoom, ChangesAt};
 
 use desk_ends::{Seat, Way};
 use gate_events::{Event, Told};
+use std::alloc::AllocError;
 
 /// Whether the seat knows of no event, after a look.
 pub(crate) fn is_empty_at(seats: &mut Vec<Seat>, place: usize) -> bool
@@ -65,4 +66,24 @@ pub(crate) fn send_at(ways: &mut Vec<Way>, place: Option<usize>, told: Told)
         return;
     };
     ways[place].send(told);
+}
+
+/// From now on each way stages what it is sent. `AllocError` leaves some of them as they were, and none changed in what
+/// it has.
+pub(crate) fn stage_each(ways: &mut Vec<Way>) -> Result<(), AllocError>
+    ensures { ways.new.items ≡ ways.old.items }
+{
+    for place in 0..ways.len() {
+        ways[place].stage()?;
+    }
+    Ok(())
+}
+
+/// What is staged for each way goes into its ring. Takes no memory.
+pub(crate) fn release_each(ways: &mut Vec<Way>)
+    ensures { WaysLooked ways.old.items ways.new.items }
+{
+    for place in 0..ways.len() {
+        ways[place].release();
+    }
 }

@@ -15,7 +15,7 @@ use Rattle.desk_side.specs.desk_ends.Rings.{NamedInlet, NamedOutlet}
 use Rattle.desk_side.specs.desk_ends.Seats.{SeatState, SeatGave, SeatLooked, WayState, WayLooked, WaysLooked}
 use Rattle.desk_side.specs.desk_ends.Seats.{seat_name, way_name}
 use Rattle.desk_side.proofs.desk_ends.Places.{get-same}
-use Rattle.desk_side.specs.Side.{ChangesAt}
+use Rattle.desk_side.specs.Side.{ChangesAt, SideState}
 use Rattle.desk_steps.specs.Agreeing.{Agrees, AreNamed, DeskState, Follows}
 use Rattle.desk_steps.specs.Turning.{Drops, Looks}
 use Rattle.desk_side.proofs.Moves.{come-to, each-change, each-same}
@@ -84,6 +84,13 @@ looks-agree inlets outlets k s t h l =
     agrees-kept inlets outlets s t h l.recorded
     l.seats.count (each-change k SeatLooked SameOwn s.side.seats t.side.seats l.seats (λ a b at p. looked-own a b p) own-stays)
     l.ways.count (way-looks s.side.ways t.side.ways l.ways)
+
+-- what was told may lie elsewhere now, and there may be more room
+pub ways-agree : (inlets : List NamedInlet) (outlets : List NamedOutlet) (r : Recorded) (s t : SideState) → Agrees inlets outlets (record { recorded = r; side = s })
+    → t.seats ≡ s.seats → WaysLooked s.ways t.ways → Agrees inlets outlets (record { recorded = r; side = t })
+ways-agree inlets outlets r s t h seats ways =
+    agrees-kept inlets outlets (record { recorded = r; side = s }) (record { recorded = r; side = t }) h refl (ap length seats)
+    (λ k a at. (a, ap (λ (z : List SeatState). slice_get z k) seats ∙ at, own-stays a)) ways.count (way-looks s.ways t.ways ways)
 
 -- an event of another source is none of its own
 pub not-own : (source : Source) (e : Event) (events : List Event) → is_from source e ≡ false → events_from source (events ++ e ∷ []) ≡ events_from source events

@@ -26,7 +26,7 @@ use Rattle.desk_steps.specs.Agreeing.{Agrees, AreNamed, DeskState, Follows}
 use Rattle.desk_steps.specs.Turning.{Does, RoundIsRefused, Rounds, StepsFirst, Went}
 use Rattle.desk_steps.specs.declared.turned.Turned.{Turned}
 use Rattle.desk_steps.specs.declared.turned.Did.{Did}
-use Rattle.desk_steps.specs.declared.turned.Did.TheVariants.{Idle, Dropped, Held, Stepped}
+use Rattle.desk_steps.specs.declared.turned.Did.TheVariants.{Idle, Dropped, Held, Stepped, Refused}
 use Rattle.desk_side.proofs.Moves.{each-change, each-same, prefix-more, was}
 use Rattle.desk_steps.proofs.Keeping.{drops-agree, looks-agree, not-own}
 
@@ -162,6 +162,7 @@ does-agree inlets outlets k Idle s t h d = looks-agree inlets outlets k s t h d.
 does-agree inlets outlets k Dropped s t h d = drops-agree inlets outlets k d.0 t (looks-agree inlets outlets k s d.0 h d.1) d.2
 does-agree inlets outlets k Held s t h d = looks-agree inlets outlets k s t h d.0
 does-agree inlets outlets k Stepped s t h d = steps-agree inlets outlets k d.0 t (looks-agree inlets outlets k s d.0 h d.1) d.2
+does-agree inlets outlets k Refused s t h d = looks-agree inlets outlets k s t h d.0
 
 pub went-agree : (inlets : List NamedInlet) (outlets : List NamedOutlet) (s : DeskState) (dids : List Did) (t : DeskState) → Agrees inlets outlets s → Went s dids t → Agrees inlets outlets t
 went-agree inlets outlets s [] t h w = subst (Agrees inlets outlets) (sym w) h
@@ -169,12 +170,7 @@ went-agree inlets outlets s (did ∷ dids) t h w =
     does-agree inlets outlets (length dids) did w.0 t (went-agree inlets outlets s dids w.0 h w.1) w.2
 
 pub rounds-agree : (inlets : List NamedInlet) (outlets : List NamedOutlet) (turned : Turned) (s t : DeskState) → Agrees inlets outlets s → Rounds turned s t → Agrees inlets outlets t
-rounds-agree inlets outlets turned s t h r =
-    let mid = went-agree inlets outlets s r.dids r.mid h r.went in
-    elim r.end [
-      | inl q ↦ subst (Agrees inlets outlets) (sym q.1) mid
-      | inr q ↦ looks-agree inlets outlets (length r.dids) r.mid t mid q.1
-    ]
+rounds-agree inlets outlets turned s t h r = went-agree inlets outlets s r.dids t h r.went
 
 pub refused-agree : (inlets : List NamedInlet) (outlets : List NamedOutlet) (s t : DeskState) → Agrees inlets outlets s → RoundIsRefused s t → Agrees inlets outlets t
-refused-agree inlets outlets s t h r = looks-agree inlets outlets (length r.dids) r.mid t (went-agree inlets outlets s r.dids r.mid h r.went) r.end
+refused-agree inlets outlets s t h r = went-agree inlets outlets s r.dids t h r.went

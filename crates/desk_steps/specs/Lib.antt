@@ -3,6 +3,8 @@ pub mod Agreeing
 pub mod KeptFree
 pub mod Turning
 pub mod Settling
+pub mod Status
+pub use Rattle.gate_core.specs.Board
 pub use Rattle.gate_core.specs.Core
 pub use Rattle.gate_core.specs.Targets
 pub use Rattle.gate_journal.specs.Kept

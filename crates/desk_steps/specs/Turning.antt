@@ -14,7 +14,7 @@ use Rattle.desk_steps.specs.Agreeing.{DeskState}
 use Rattle.desk_steps.specs.KeptFree.{kept_free}
 use Rattle.desk_steps.specs.Settling.{KnowsNone}
 use Rattle.desk_steps.specs.declared.turned.Did.{Did}
-use Rattle.desk_steps.specs.declared.turned.Did.TheVariants.{Idle, Dropped, Held, Stepped}
+use Rattle.desk_steps.specs.declared.turned.Did.TheVariants.{Idle, Dropped, Held, Stepped, Refused}
 use Rattle.desk_steps.specs.declared.turned.Turned.{Turned}
 
 -- the same clients and ports
@@ -87,33 +87,34 @@ Does k Dropped s t = (m : DeskState) × Looks k s m × Drops k m t
 Does k Held s t = Looks k s t × Waits k t
 Does k Stepped s t =
     (m : DeskState) × Looks k s m × StepsFirst k m t × SameCuts m.side.ways t.side.ways × HasRoom k m
+Does k Refused s t = Looks k s t × HasRoom k t
 
 -- the turns of the first inlets, one after another, the newest first
 abbrev pub Went : DeskState → List Did → DeskState → Type 0
 Went s [] t = t ≡ s
 Went s (did ∷ dids) t = (m : DeskState) × Went s dids m × Does (length dids) did m t
 
--- how many steps were made, and how many events were left for a full outlet
+-- how many steps were made, how many events were left for a full outlet, and for how many memory was refused
 abbrev pub counted : List Did → Turned
-counted [] = record { steps = 0; held = 0 }
+counted [] = record { steps = 0; held = 0; refused = 0 }
 counted (Idle ∷ dids) = counted dids
 counted (Dropped ∷ dids) = counted dids
-counted (Held ∷ dids) = record { steps = (counted dids).steps; held = (counted dids).held + 1 }
-counted (Stepped ∷ dids) = record { steps = (counted dids).steps + 1; held = (counted dids).held }
+counted (Held ∷ dids) = record (counted dids) { held = (counted dids).held + 1 }
+counted (Stepped ∷ dids) = record (counted dids) { steps = (counted dids).steps + 1 }
+counted (Refused ∷ dids) = record (counted dids) { refused = (counted dids).refused + 1 }
 
--- A round: each inlet had its turn, or memory ran out in the turn of one after a step was made, and what the desk knows
--- of rings is all that changed in that.
+-- A round: each inlet had its turn, and a step was made, or memory was refused for no event.
 pub record Rounds (turned : Turned) (s t : DeskState) : Type 0 where
   pub dids : List Did
-  pub mid : DeskState
-  pub went : Went s dids mid
+  pub went : Went s dids t
   pub counts : turned ≡ counted dids
-  pub end : ((length dids ≡ length s.side.seats) × (t ≡ mid)) ⊎ ((0 < turned.steps) × Looks (length dids) mid t)
+  pub all : length dids ≡ length s.side.seats
+  pub end : (0 < turned.steps) ⊎ (turned.refused ≡ 0)
 
--- A round in which the first step that was tried was refused.
+-- A round in which memory was refused for an event, and no step was made.
 pub record RoundIsRefused (s t : DeskState) : Type 0 where
   pub dids : List Did
-  pub mid : DeskState
-  pub went : Went s dids mid
+  pub went : Went s dids t
+  pub all : length dids ≡ length s.side.seats
   pub none : (counted dids).steps ≡ 0
-  pub end : Looks (length dids) mid t
+  pub some : 0 < (counted dids).refused

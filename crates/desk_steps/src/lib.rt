@@ -7,14 +7,16 @@
 mod closing;
 mod keeping_free;
 mod recorded;
+mod status;
 mod turned;
 mod turning;
 
 pub use closing::settle;
 pub use desk_side::{Side, open_side};
-pub use gate_core::Settings;
+pub use gate_core::{ClientRow, PortRow, PortState, Settings};
 pub use gate_journal::History;
 pub use recorded::RecordedCore;
 pub use soup_session::PortFault;
+pub use status::Status;
 pub use turned::{Did, Turned};
 pub use turning::round;

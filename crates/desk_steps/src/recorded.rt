@@ -5,8 +5,11 @@ ghost use Rattle.gate_journal.specs.Kept.{Kept, turns};
 ghost use Rattle.gate_core.specs.Core.{turn_of};
 ghost use Rattle.desk_side.specs.Said.{IsSaid};
 
+use crate::status::Status;
 use desk_side::Said;
-use gate_core::{Batch, Core, Event, PortFault, Settings, Targets};
+use fix_fields::Fields;
+use fix_session::LogonFault;
+use gate_core::{Batch, ClientNumber, Core, Event, PortFault, Settings, Targets};
 use gate_journal::History;
 use std::alloc::{AllocError, Global};
 use std::hash::{BuildHasher, BuildHasherDefault, FoldHasher};
@@ -90,7 +93,8 @@ impl<S: BuildHasher + Drop> RecordedCore<S> {
     ghost use Rattle.gate_journal.specs.gate_law.Holds.{Holds};
     ghost use Rattle.gate_journal.specs.gate_law.Promises.{IsAmong};
     ghost use Rattle.gate_events.specs.Seen.{event_seen};
-    ghost use Rattle.gate_core.specs.Expected.{fault_now};
+    ghost use Rattle.gate_core.specs.Board.{IsBoard};
+    ghost use Rattle.gate_core.specs.Expected.{event_due, fault_now, logon_fault_now};
     ghost use Rattle.gate_core.specs.Targets.{client_for, port_for};
     ghost use Rattle.gate_journal.specs.Kept.{turns};
     ghost use Rattle.desk_steps.specs.Recorded.{IsKeptStep};
@@ -123,12 +127,37 @@ impl<S: BuildHasher + Drop> RecordedCore<S> {
         }
     }
 
+    /// Whether this event is none that only says that time passes and gives nothing (`Core::is_due`). Takes no memory.
+    pub fn is_due(&self, alloc: Global, event: &Event) -> bool
+        ensures { result ≡ event_due self.now.settings (lists self.now.settings (turns self.now.kept))
+            (event_seen event.now) }
+    {
+        self.core.is_due(alloc, event)
+    }
+
+    /// Why a frame of a client's link that isn't logged on is answered by the link's end alone (`Core::logon_fault`).
+    /// Takes no memory.
+    pub fn logon_fault(&self, client: ClientNumber, frame: &Fields) -> Option<LogonFault>
+        ensures { result ≡ logon_fault_now self.now.settings client
+            ((lists self.now.settings (turns self.now.kept)).client_calls client) frame.now }
+    {
+        self.core.logon_fault(client, frame)
+    }
+
     /// Why a port is faulted; `None` of one that isn't, and of one that the settings don't have. Takes no memory.
     pub fn port_fault(&self, port: u16) -> Option<PortFault>
         ensures { result ≡ fault_now self.now.settings port
             ((lists self.now.settings (turns self.now.kept)).port_calls port) }
     {
         self.core.port_fault(port)
+    }
+
+    /// How all clients and ports stand now. It goes through no order.
+    pub fn status(&self, alloc: Global) -> Result<Status, AllocError>
+        ensures { IfOk result (λ status. IsBoard self.now.settings (turns self.now.kept) status) }
+    {
+        let board = self.core.board(alloc)?;
+        Ok(Status::new(board))
     }
 
     /// The settings.

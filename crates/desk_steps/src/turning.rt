@@ -5,7 +5,7 @@ ghost use Rattle.gate_events.specs.Sources.{is_from};
 ghost use Rattle.gate_events.specs.declared.event.Event.{Event};
 ghost use Rattle.desk_side.specs.desk_ends.Seats.{SeatState, WaysLooked};
 ghost use Rattle.desk_steps.specs.Agreeing.{DeskState};
-ghost use Rattle.desk_steps.specs.Turning.{Does, HasRoom, RoundIsRefused, Looks, Rounds, SameCounts, SameCuts};
+ghost use Rattle.desk_steps.specs.Turning.{Does, HasRoom, RoundIsRefused, Rounds, SameCounts, SameCuts};
 ghost use Rattle.desk_steps.specs.Turning.{StepsFirst, Waits};
 
 use crate::keeping_free::places_kept_free;
@@ -63,37 +63,38 @@ fn first_has_room<S: BuildHasher + Drop>(
     side.has_room(targets.client, targets.port, kept_free)
 }
 
-/// The turn of an inlet: its first event is stepped, unless it has to wait. `AllocError` leaves it where it was.
+/// The turn of an inlet: its first event is stepped, unless it has to wait, or memory is refused for it: then it stays
+/// where it is.
 pub(crate) fn turn_at<S: BuildHasher + Drop>(
     recorded: &mut RecordedCore<S>,
     side: &mut Side,
     alloc: Global,
     place: usize,
-) -> Result<Did, AllocError>
+) -> Did
     requires inside { place < length side.old.seats }
-    ensures ok { IfOk result (λ did. Does place did (record { recorded = recorded.old; side = side.old })
-        (record { recorded = recorded.new; side = side.new })) }
-    ensures err { OnErr result (Looks place (record { recorded = recorded.old; side = side.old })
-        (record { recorded = recorded.new; side = side.new })) }
+    ensures does { Does place result (record { recorded = recorded.old; side = side.old })
+        (record { recorded = recorded.new; side = side.new }) }
     ensures count { length side.new.seats ≡ length side.old.seats }
 {
     if side.is_empty(place) {
-        return Ok(Did::Idle);
+        return Did::Idle;
     }
     let event = side.front(place);
     if !event.is_from(&side.source(place)) {
         let _ = side.pop(place);
-        return Ok(Did::Dropped);
+        return Did::Dropped;
     }
     if !first_has_room(recorded, side, place) {
-        return Ok(Did::Held);
+        return Did::Held;
     }
-    step_front(recorded, side, alloc, place)?;
-    Ok(Did::Stepped)
+    match step_front(recorded, side, alloc, place) {
+        Ok(()) => Did::Stepped,
+        Err(_) => Did::Refused,
+    }
 }
 
-/// Once round the inlets, in order: each has its turn, until memory is refused. `AllocError` comes only where the first
-/// step that is tried is refused.
+/// Once round the inlets, in order: each has its turn, also where memory is refused for the event of another.
+/// `AllocError` comes where it is refused for one at least, and no step is made.
 pub fn round<S: BuildHasher + Drop>(
     recorded: &mut RecordedCore<S>,
     side: &mut Side,
@@ -105,17 +106,16 @@ pub fn round<S: BuildHasher + Drop>(
     ensures err { OnErr result (RoundIsRefused (record { recorded = recorded.old; side = side.old })
         (record { recorded = recorded.new; side = side.new })) }
 {
-    let mut turned = Turned { steps: 0, held: 0 };
+    let mut turned = Turned {
+        steps: 0,
+        held: 0,
+        refused: 0,
+    };
     for place in 0..side.inlets() {
-        match turn_at(recorded, side, alloc, place) {
-            Ok(did) => turned.count(did),
-            Err(error) => {
-                if turned.steps == 0 {
-                    return Err(error);
-                }
-                return Ok(turned);
-            }
-        }
+        turned.count(turn_at(recorded, side, alloc, place));
+    }
+    if turned.steps == 0 && turned.refused != 0 {
+        return Err(AllocError);
     }
     Ok(turned)
 }

@@ -1,19 +1,18 @@
 //! The bell of a port that is asked something.
 
-ghost use Rattle.std.specs.Prelude.{◌≡◌};
-
-use super::ends::turns_to;
-use super::events::{logon, message, put, test_request, up};
-use desk::{DeskName, Inlet, Parts, Shared, open_desk};
+use super::bells::{is_not_rung, is_rung};
+use super::ends::step;
+use super::events::{logon, message, test_request, up};
+use super::lent::{Borrower, lend};
+use desk::{DeskName, Inlet, Shared};
 use gate_events::PortNumber;
-use script_steps::{Event, fixed_settings};
+use script_steps::Event;
 use soup_packets::{Packet, Payload};
 use std::alloc::Global;
-use std::marker::Brand;
 use std::process::Abort;
 use std::sync::Wait;
 use std::test::Fail;
-use std::time::{Clock, Duration, Instant};
+use std::time::Clock;
 
 /// The places of the first client and of the first port among inlets and among outlets: there are three clients.
 const CLIENT: usize = 0;
@@ -35,39 +34,22 @@ const ACCEPTED: &[u8; 30] = b"SESSION001                   1";
 /// what the client is told next, or once what waits is rung for.
 #[test]
 fn an_order_rings_its_port(rt: HostRuntime) -> Result<(), Fail> {
-    let alloc = rt.alloc();
-    let parts = Parts::new(alloc, fixed_settings(alloc)?)?;
-    rings_port::<Brand, _>(&rt, alloc, parts)
+    lend(&rt, rt.alloc(), Borrower::AnOrderRingsItsPort)
 }
 
-fn rings_port<K: DeskName, R: Wait + Abort + Clock>(
+pub fn rings_port<K: DeskName, R: Wait + Abort + Clock>(
     rt: &R,
     alloc: Global,
-    parts: Parts,
-) -> Result<(), Fail>
-    requires named { (parts.inlets ≡ K.inlets) × (parts.outlets ≡ K.outlets) }
-{
-    let (shared, mut inlets, _outlets) = open_desk::<K, _>(alloc, parts)?;
-    let inlets = inlets.as_mut_slice();
-    step(rt, alloc, &shared, inlets, PORT, port_up())?;
-    step(rt, alloc, &shared, inlets, PORT, login_accepted(alloc)?)?;
-    step(rt, alloc, &shared, inlets, CLIENT, up())?;
-    step(rt, alloc, &shared, inlets, CLIENT, logon(alloc)?)?;
-    assert!(rt; nap(rt, &shared, PORT, 10_000)? < Duration::from_secs(5));
-    assert!(rt; nap(rt, &shared, CLIENT, 10_000)? < Duration::from_secs(5));
-    step(
-        rt,
-        alloc,
-        &shared,
-        inlets,
-        CLIENT,
-        message(alloc, b"D", 2, ORDER)?,
-    )?;
-    assert!(rt; nap(rt, &shared, PORT, 10_000)? < Duration::from_secs(5));
-    assert!(rt; nap(rt, &shared, CLIENT, 50)? >= Duration::from_millis(40));
+    shared: &Shared<K>,
+    inlets: &mut [Inlet<K>],
+) -> Result<(), Fail> {
+    log_both_on(rt, alloc, shared, inlets)?;
+    enter(rt, alloc, shared, inlets, 2, ORDER)?;
+    is_rung(rt, shared, PORT)?;
+    is_not_rung(rt, shared, CLIENT)?;
     shared.ring_waiting(rt);
-    assert!(rt; nap(rt, &shared, CLIENT, 10_000)? < Duration::from_secs(5));
-    rings_once::<K, R>(rt, alloc, &shared, inlets)
+    is_rung(rt, shared, CLIENT)?;
+    rings_once(rt, alloc, shared, inlets)
 }
 
 /// What waits is rung for once; and not where the client was told something since that rang its bell.
@@ -78,46 +60,40 @@ fn rings_once<K: DeskName, R: Wait + Abort + Clock>(
     inlets: &mut [Inlet<K>],
 ) -> Result<(), Fail> {
     shared.ring_waiting(rt);
-    assert!(rt; nap(rt, shared, CLIENT, 50)? >= Duration::from_millis(40));
-    step(
-        rt,
-        alloc,
-        shared,
-        inlets,
-        CLIENT,
-        message(alloc, b"D", 3, NEXT_ORDER)?,
-    )?;
+    is_not_rung(rt, shared, CLIENT)?;
+    enter(rt, alloc, shared, inlets, 3, NEXT_ORDER)?;
     step(rt, alloc, shared, inlets, CLIENT, test_request(alloc, 4)?)?;
-    assert!(rt; nap(rt, shared, CLIENT, 10_000)? < Duration::from_secs(5));
+    is_rung(rt, shared, CLIENT)?;
     shared.ring_waiting(rt);
-    assert!(rt; nap(rt, shared, CLIENT, 50)? >= Duration::from_millis(40));
-    Ok(())
+    is_not_rung(rt, shared, CLIENT)
 }
 
-/// Puts an event at an inlet, and has it stepped.
-fn step<K: DeskName, R: Wait + Abort>(
+/// The port is logged in and the client logged on, and the bells of both were rung.
+fn log_both_on<K: DeskName, R: Wait + Abort + Clock>(
     rt: &R,
     alloc: Global,
     shared: &Shared<K>,
     inlets: &mut [Inlet<K>],
-    place: usize,
-    event: Event,
 ) -> Result<(), Fail> {
-    let inlet = inlets.get_mut(place).ok_or("an inlet")?;
-    assert!(rt; put(inlet, event));
-    Ok(turns_to(rt, alloc, shared, 1, 0)?)
+    step(rt, alloc, shared, inlets, PORT, port_up())?;
+    step(rt, alloc, shared, inlets, PORT, login_accepted(alloc)?)?;
+    step(rt, alloc, shared, inlets, CLIENT, up())?;
+    step(rt, alloc, shared, inlets, CLIENT, logon(alloc)?)?;
+    is_rung(rt, shared, PORT)?;
+    is_rung(rt, shared, CLIENT)
 }
 
-/// How long a nap at an outlet's bell takes, of so many milliseconds at most.
-pub fn nap<K: DeskName, R: Wait + Clock>(
+/// The client enters an order, as its message of this number.
+fn enter<K: DeskName, R: Wait + Abort>(
     rt: &R,
+    alloc: Global,
     shared: &Shared<K>,
-    outlet: usize,
-    most: u64,
-) -> Result<Duration, Fail> {
-    let start = Instant::now(rt).ok().ok_or("a clock")?;
-    shared.nap(rt, outlet, Duration::from_millis(most));
-    Ok(start.elapsed(rt).ok().ok_or("a clock")?)
+    inlets: &mut [Inlet<K>],
+    number: u32,
+    order: &[u8],
+) -> Result<(), Fail> {
+    let message = message(alloc, b"D", number, order)?;
+    step(rt, alloc, shared, inlets, CLIENT, message)
 }
 
 /// The first link of the first port is up.

@@ -1,13 +1,11 @@
 //! Bells of outlets.
 
-ghost use Rattle.std.specs.Prelude.{◌≡◌};
-
-use super::ends::turns_to;
+use super::ends::step;
 use super::events::put;
-use desk::{DeskName, Inlet, Parts, Shared, Turns, open_desk};
-use script_steps::{ClientNumber, Event, fixed_settings};
+use super::lent::{Borrower, lend};
+use desk::{DeskName, Inlet, Shared, Turns};
+use script_steps::{ClientNumber, Event};
 use std::alloc::{AllocError, Global};
-use std::marker::Brand;
 use std::process::Abort;
 use std::sync::Wait;
 use std::test::Fail;
@@ -16,56 +14,37 @@ use std::time::{Clock, Duration, Instant};
 /// A turn rings the bell of the outlet that it told something, and no other.
 #[test]
 fn rings_one(rt: HostRuntime) -> Result<(), Fail> {
-    let alloc = rt.alloc();
-    let parts = Parts::new(alloc, fixed_settings(alloc)?)?;
-    rings::<Brand, _>(&rt, alloc, parts)
+    lend(&rt, rt.alloc(), Borrower::RingsOne)
 }
 
-fn rings<K: DeskName, R: Wait + Abort + Clock>(
-    rt: &R,
-    alloc: Global,
-    parts: Parts,
-) -> Result<(), Fail>
-    requires named { (parts.inlets ≡ K.inlets) × (parts.outlets ≡ K.outlets) }
-{
-    let (shared, mut inlets, _outlets) = open_desk::<K, _>(alloc, parts)?;
-    tell_second(rt, alloc, &shared, inlets.as_mut_slice())?;
-    nap_by_bells(rt, &shared)
-}
-
-/// Tells the second client something, twice.
-fn tell_second<K: DeskName, R: Wait + Abort>(
+pub fn rings<K: DeskName, R: Wait + Abort + Clock>(
     rt: &R,
     alloc: Global,
     shared: &Shared<K>,
     inlets: &mut [Inlet<K>],
 ) -> Result<(), Fail> {
-    let second = inlets.get_mut(1).ok_or("an inlet")?;
-    turn_with(rt, alloc, shared, second, 1)?;
-    turn_with(rt, alloc, shared, second, 2)
+    step(rt, alloc, shared, inlets, 1, second_up(1))?;
+    step(rt, alloc, shared, inlets, 1, second_up(2))?;
+    second_rang_alone(rt, shared)
 }
 
 /// Turns ring the bell of the outlet that they told something, and end at one that makes no step.
 #[test]
 fn turns_ring_one(rt: HostRuntime) -> Result<(), Fail> {
-    let alloc = rt.alloc();
-    let parts = Parts::new(alloc, fixed_settings(alloc)?)?;
-    rings_by_turns::<Brand, _>(&rt, alloc, parts)
+    lend(&rt, rt.alloc(), Borrower::TurnsRingOne)
 }
 
-fn rings_by_turns<K: DeskName, R: Wait + Abort + Clock>(
+pub fn rings_by_turns<K: DeskName, R: Wait + Abort + Clock>(
     rt: &R,
     alloc: Global,
-    parts: Parts,
-) -> Result<(), Fail>
-    requires named { (parts.inlets ≡ K.inlets) × (parts.outlets ≡ K.outlets) }
-{
-    let (shared, mut inlets, _outlets) = open_desk::<K, _>(alloc, parts)?;
-    put_three(rt, inlets.as_mut_slice())?;
-    makes_rounds(rt, alloc, &shared, 2, 2)?;
-    makes_rounds(rt, alloc, &shared, 8, 1)?;
-    makes_rounds(rt, alloc, &shared, 8, 0)?;
-    nap_by_bells(rt, &shared)
+    shared: &Shared<K>,
+    inlets: &mut [Inlet<K>],
+) -> Result<(), Fail> {
+    put_three(rt, inlets)?;
+    makes_rounds(rt, alloc, shared, 2, 2)?;
+    makes_rounds(rt, alloc, shared, 8, 1)?;
+    makes_rounds(rt, alloc, shared, 8, 0)?;
+    second_rang_alone(rt, shared)
 }
 
 /// Three links of the second client come up.
@@ -94,35 +73,46 @@ fn makes_rounds<K: DeskName, R: Abort>(
     Ok(())
 }
 
-/// Has the desk step one event, which tells the second client something.
-fn turn_with<K: DeskName, R: Wait + Abort>(
+/// The second outlet's bell rang, and the first one's didn't before it is rung by hand.
+fn second_rang_alone<K: DeskName, R: Wait + Abort + Clock>(
     rt: &R,
-    alloc: Global,
     shared: &Shared<K>,
-    second: &mut Inlet<K>,
-    link: u64,
 ) -> Result<(), Fail> {
-    assert!(rt; put(second, second_up(link)));
-    Ok(turns_to(rt, alloc, shared, 1, 0)?)
+    is_rung(rt, shared, 1)?;
+    is_not_rung(rt, shared, 0)?;
+    shared.ring(0);
+    is_rung(rt, shared, 0)
 }
 
-/// The second outlet's bell rang, and the first one's didn't before it is rung by hand.
-fn nap_by_bells<K: DeskName, R: Wait + Abort + Clock>(
+/// An outlet's bell was rung: a nap at it ends long before its ten seconds.
+pub fn is_rung<K: DeskName, R: Wait + Abort + Clock>(
     rt: &R,
     shared: &Shared<K>,
+    outlet: usize,
 ) -> Result<(), Fail> {
-    let start = Instant::now(rt).ok().ok_or("a clock")?;
-    shared.nap(rt, 1, Duration::from_secs(10));
-    assert!(rt; since(rt, &start)? < Duration::from_secs(5));
-    shared.nap(rt, 0, Duration::from_millis(50));
-    assert!(rt; since(rt, &start)? >= Duration::from_millis(40));
-    shared.ring(0);
-    shared.nap(rt, 0, Duration::from_secs(10));
-    assert!(rt; since(rt, &start)? < Duration::from_secs(9));
+    assert!(rt; nap(rt, shared, outlet, 10_000)? < Duration::from_secs(5));
     Ok(())
 }
 
-fn since<R: Clock>(rt: &R, start: &Instant) -> Result<Duration, Fail> {
+/// An outlet's bell wasn't rung: a nap at it lasts its fifty milliseconds.
+pub fn is_not_rung<K: DeskName, R: Wait + Abort + Clock>(
+    rt: &R,
+    shared: &Shared<K>,
+    outlet: usize,
+) -> Result<(), Fail> {
+    assert!(rt; nap(rt, shared, outlet, 50)? >= Duration::from_millis(40));
+    Ok(())
+}
+
+/// How long a nap at an outlet's bell takes, of so many milliseconds at most.
+fn nap<K: DeskName, R: Wait + Clock>(
+    rt: &R,
+    shared: &Shared<K>,
+    outlet: usize,
+    most: u64,
+) -> Result<Duration, Fail> {
+    let start = Instant::now(rt).ok().ok_or("a clock")?;
+    shared.nap(rt, outlet, Duration::from_millis(most));
     Ok(start.elapsed(rt).ok().ok_or("a clock")?)
 }
 

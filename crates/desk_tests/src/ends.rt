@@ -1,7 +1,8 @@
 //! Ends of a desk, and its turns.
 
+use super::events::put;
 use desk::{Closed, DeskName, Finished, Inlet, Outlet, Shared, Turned};
-use script_steps::History;
+use script_steps::{Event, History};
 use std::alloc::{AllocError, Global};
 use std::process::Abort;
 use std::sync::Wait;
@@ -16,8 +17,29 @@ pub fn turns_to<K: DeskName, R: Wait + Abort>(
     held: u32,
 ) -> Result<(), AllocError> {
     let turned = shared.turn(rt, alloc)?;
-    assert_eq!(rt; turned, Turned { steps, held });
+    assert_eq!(rt;
+        turned,
+        Turned {
+            steps,
+            held,
+            refused: 0
+        }
+    );
     Ok(())
+}
+
+/// Puts an event at an inlet, and has it stepped.
+pub fn step<K: DeskName, R: Wait + Abort>(
+    rt: &R,
+    alloc: Global,
+    shared: &Shared<K>,
+    inlets: &mut [Inlet<K>],
+    place: usize,
+    event: Event,
+) -> Result<(), Fail> {
+    let inlet = inlets.get_mut(place).ok_or("an inlet")?;
+    assert!(rt; put(inlet, event));
+    Ok(turns_to(rt, alloc, shared, 1, 0)?)
 }
 
 /// The inlet of the clock, and that of the first client.
@@ -56,6 +78,7 @@ pub fn close<K: DeskName>(
             Closed {
                 history,
                 settings: _,
+                lost: _,
             },
         ) => Ok(history),
         Err(_) => Err(Fail::new("the desk isn't closed")),

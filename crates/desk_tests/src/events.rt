@@ -22,6 +22,15 @@ pub fn tick() -> Event {
     }
 }
 
+/// Its link of this number is gone.
+pub fn gone(link: u64) -> Event {
+    Event::ClientGone {
+        client: ClientNumber::new(1),
+        link,
+        at: 0,
+    }
+}
+
 /// Its Logon (A), number 1: no encryption, a heartbeat every 30 seconds.
 ///
 /// Source: FIX 4.4 Volume 2, "Logon".

@@ -2,10 +2,11 @@
 
 ghost use Rattle.std.specs.Prelude.{◌≡◌};
 
-use super::ends::{close, finish_inlet, turns_to};
+use super::ends::{close, finish_inlet, step, turns_to};
 use super::events::{logon, put, test_request, tick, up};
+use super::lent::{Borrower, fixed_parts, lend};
 use desk::{DeskName, Finished, Inlet, Outlet, Parts, Shared, open_desk};
-use script_steps::{ClientNumber, History, Source, fixed_settings};
+use script_steps::{ClientNumber, History, Source};
 use std::alloc::Global;
 use std::marker::Brand;
 use std::process::Abort;
@@ -15,26 +16,17 @@ use std::test::Fail;
 /// 1,024 ticks go in with no turn between, and one more once a turn was made.
 #[test]
 fn ticks_and_one_more(rt: HostRuntime) -> Result<(), Fail> {
-    let alloc = rt.alloc();
-    let parts = Parts::new(alloc, fixed_settings(alloc)?)?;
-    ticks::<Brand, _>(&rt, alloc, parts)
-}
-
-fn ticks<K: DeskName, R: Wait + Abort>(rt: &R, alloc: Global, parts: Parts) -> Result<(), Fail>
-    requires named { (parts.inlets ≡ K.inlets) × (parts.outlets ≡ K.outlets) }
-{
-    let (shared, mut inlets, _outlets) = open_desk::<K, _>(alloc, parts)?;
-    assert!(rt; inlets.len() == 6);
-    fill_with_ticks(rt, alloc, &shared, inlets.as_mut_slice())
+    lend(&rt, rt.alloc(), Borrower::TicksAndOneMore)
 }
 
 /// The ring of the clock takes 1,024 ticks, and one more once one was stepped.
-fn fill_with_ticks<K: DeskName, R: Wait + Abort>(
+pub fn fill_with_ticks<K: DeskName, R: Wait + Abort>(
     rt: &R,
     alloc: Global,
     shared: &Shared<K>,
     inlets: &mut [Inlet<K>],
 ) -> Result<(), Fail> {
+    assert!(rt; inlets.len() == 6);
     let clock = inlets.get_mut(5).ok_or("an inlet")?;
     assert!(rt; clock.position() == 5);
     assert!(rt; clock.source() == Source::Clock);
@@ -50,20 +42,48 @@ fn fill_with_ticks<K: DeskName, R: Wait + Abort>(
 /// An event waits while the outlet of its client is full. The closed history has all that was put, and nothing else.
 #[test]
 fn held_and_stepped(rt: HostRuntime) -> Result<(), Fail> {
-    let alloc = rt.alloc();
-    let parts = Parts::new(alloc, fixed_settings(alloc)?)?;
-    holds::<Brand, _>(&rt, alloc, parts)
+    let parts = fixed_parts(rt.alloc())?;
+    holds::<Brand, _>(&rt, rt.alloc(), parts)
 }
 
 fn holds<K: DeskName, R: Wait + Abort>(rt: &R, alloc: Global, parts: Parts) -> Result<(), Fail>
     requires named { (parts.inlets ≡ K.inlets) × (parts.outlets ≡ K.outlets) }
 {
-    let (shared, mut inlets, mut outlets) = open_desk::<K, _>(alloc, parts)?;
-    fill_outlet(rt, alloc, &shared, inlets.as_mut_slice())?;
-    step_after_take(rt, alloc, &shared, outlets.as_mut_slice())?;
-    let finished = finish_all(alloc, inlets, outlets)?;
+    let (shared, inlets, outlets) = open_desk::<K, _>(alloc, parts)?;
+    let finished = hold_and_finish(rt, alloc, &shared, inlets, outlets)?;
     let history = close(alloc, shared, finished)?;
     look_at(rt, alloc, &history)
+}
+
+/// An event is held until a list is taken, and all ends finish.
+fn hold_and_finish<K: DeskName, R: Wait + Abort>(
+    rt: &R,
+    alloc: Global,
+    shared: &Shared<K>,
+    inlets: Vec<Inlet<K>>,
+    outlets: Vec<Outlet<K>>,
+) -> Result<Vec<Finished<K>>, Fail> {
+    let (mut inlets, mut outlets) = (inlets, outlets);
+    hold(
+        rt,
+        alloc,
+        shared,
+        inlets.as_mut_slice(),
+        outlets.as_mut_slice(),
+    )?;
+    finish_all(alloc, inlets, outlets)
+}
+
+/// An event is held until a list is taken.
+fn hold<K: DeskName, R: Wait + Abort>(
+    rt: &R,
+    alloc: Global,
+    shared: &Shared<K>,
+    inlets: &mut [Inlet<K>],
+    outlets: &mut [Outlet<K>],
+) -> Result<(), Fail> {
+    fill_outlet(rt, alloc, shared, inlets)?;
+    step_after_take(rt, alloc, shared, outlets)
 }
 
 /// Has the client told 1,024 lists, and puts an event more.
@@ -73,15 +93,12 @@ fn fill_outlet<K: DeskName, R: Wait + Abort>(
     shared: &Shared<K>,
     inlets: &mut [Inlet<K>],
 ) -> Result<(), Fail> {
-    let client = inlets.get_mut(0).ok_or("an inlet")?;
-    assert!(rt; put(client, up()));
-    turns_to(rt, alloc, shared, 1, 0)?;
-    assert!(rt; put(client, logon(alloc)?));
-    turns_to(rt, alloc, shared, 1, 0)?;
+    step(rt, alloc, shared, inlets, 0, up())?;
+    step(rt, alloc, shared, inlets, 0, logon(alloc)?)?;
     for number in 2..1_025 {
-        assert!(rt; put(client, test_request(alloc, number)?));
-        turns_to(rt, alloc, shared, 1, 0)?;
+        step(rt, alloc, shared, inlets, 0, test_request(alloc, number)?)?;
     }
+    let client = inlets.get_mut(0).ok_or("an inlet")?;
     assert!(rt; put(client, test_request(alloc, 1_025)?));
     Ok(())
 }
@@ -102,17 +119,17 @@ fn step_after_take<K: DeskName, R: Wait + Abort>(
 /// Behind a client that takes nothing its own messages wait, and time goes on.
 #[test]
 fn time_goes_on(rt: HostRuntime) -> Result<(), Fail> {
-    let alloc = rt.alloc();
-    let parts = Parts::new(alloc, fixed_settings(alloc)?)?;
-    goes_on::<Brand, _>(&rt, alloc, parts)
+    lend(&rt, rt.alloc(), Borrower::TimeGoesOn)
 }
 
-fn goes_on<K: DeskName, R: Wait + Abort>(rt: &R, alloc: Global, parts: Parts) -> Result<(), Fail>
-    requires named { (parts.inlets ≡ K.inlets) × (parts.outlets ≡ K.outlets) }
-{
-    let (shared, mut inlets, _outlets) = open_desk::<K, _>(alloc, parts)?;
-    fill_outlet(rt, alloc, &shared, inlets.as_mut_slice())?;
-    tick_beside(rt, alloc, &shared, inlets.as_mut_slice())
+pub fn goes_on<K: DeskName, R: Wait + Abort>(
+    rt: &R,
+    alloc: Global,
+    shared: &Shared<K>,
+    inlets: &mut [Inlet<K>],
+) -> Result<(), Fail> {
+    fill_outlet(rt, alloc, shared, inlets)?;
+    tick_beside(rt, alloc, shared, inlets)
 }
 
 /// Time is stepped while an event is held.

@@ -12,6 +12,8 @@ mod events;
 #[cfg(test)]
 mod full_rings;
 #[cfg(test)]
+mod lent;
+#[cfg(test)]
 mod threads;
 #[cfg(test)]
 mod told_at_once;

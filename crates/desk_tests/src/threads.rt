@@ -3,9 +3,10 @@
 ghost use Rattle.std.specs.Prelude.{◌≡◌};
 
 use super::ends::{clock_and_client, close, finish_inlet, first_outlet};
-use super::events::tick;
-use desk::{DeskName, Inlet, Outlet, Parts, Shared, open_desk};
-use script_steps::{ClientNumber, Event, History, Source, fixed_settings};
+use super::events::{gone, tick};
+use super::lent::fixed_parts;
+use desk::{DeskName, Finished, Inlet, Outlet, Parts, Shared, open_desk};
+use script_steps::{ClientNumber, Event, History, Source};
 use std::alloc::{AllocError, Global};
 use std::marker::Brand;
 use std::process::Abort;
@@ -22,10 +23,9 @@ const EACH: u32 = 5_000;
 /// and no other event.
 #[test]
 fn four_threads(rt: HostRuntime) -> Result<(), Fail> {
-    let alloc = rt.alloc();
     for _ in 0..10 {
-        let parts = Parts::new(alloc, fixed_settings(alloc)?)?;
-        work::<Brand, _>(&rt, alloc, parts)?;
+        let parts = fixed_parts(rt.alloc())?;
+        work::<Brand, _>(&rt, rt.alloc(), parts)?;
     }
     Ok(())
 }
@@ -38,15 +38,37 @@ fn work<K: DeskName + Send + Sync, R: Threads + Wait + Sync + Abort>(
     requires named { (parts.inlets ≡ K.inlets) × (parts.outlets ≡ K.outlets) }
 {
     let (shared, inlets, outlets) = open_desk::<K, _>(alloc, parts)?;
+    let finished = run_to_end(rt, alloc, &shared, inlets, outlets)?;
+    let history = close(alloc, shared, finished)?;
+    look_at(rt, alloc, &history)
+}
+
+/// The threads put, turn and take, and then their ends finish.
+fn run_to_end<K: DeskName + Send + Sync, R: Threads + Wait + Sync>(
+    rt: &R,
+    alloc: Global,
+    shared: &Shared<K>,
+    inlets: Vec<Inlet<K>>,
+    outlets: Vec<Outlet<K>>,
+) -> Result<Vec<Finished<K>>, Fail> {
     let outlet = first_outlet(outlets)?;
     let (clock, client) = clock_and_client(inlets)?;
     let stop = AtomicBool::new(false);
-    let (clock, client, outlet) = run(rt, alloc, &shared, &stop, clock, client, outlet)?;
+    let (clock, client, outlet) = run(rt, alloc, shared, &stop, clock, client, outlet)?;
+    finish_three(alloc, clock, client, outlet)
+}
+
+/// What is left of the three ends.
+fn finish_three<K: DeskName>(
+    alloc: Global,
+    clock: Inlet<K>,
+    client: Inlet<K>,
+    outlet: Outlet<K>,
+) -> Result<Vec<Finished<K>>, Fail> {
     let mut finished = vec![in alloc; outlet.finish()]?;
     finish_inlet(clock, &mut finished)?;
     finish_inlet(client, &mut finished)?;
-    let history = close(alloc, shared, finished)?;
-    look_at(rt, alloc, &history)
+    Ok(finished)
 }
 
 /// The history has what both threads put, that of the client in its order.
@@ -56,7 +78,7 @@ fn look_at<R: Abort>(rt: &R, alloc: Global, history: &History) -> Result<(), Fai
     let from_client = history.from(alloc, Source::Client(ClientNumber::new(1)))?;
     assert!(rt; from_client.len() == EACH as usize);
     for (at, event) in from_client.iter().enumerate() {
-        assert!(rt; is_going(event, at as u64), "event {at}");
+        assert!(rt; is_going(event, at as u64));
     }
     Ok(())
 }
@@ -124,15 +146,7 @@ fn put_ticks<K: DeskName, R: Wait>(rt: &R, inlet: Inlet<K>) -> Inlet<K> {
 fn put_gone<K: DeskName, R: Wait>(rt: &R, inlet: Inlet<K>) -> Inlet<K> {
     let mut inlet = inlet;
     for link in 0..EACH {
-        put_waiting(
-            rt,
-            &mut inlet,
-            Event::ClientGone {
-                client: ClientNumber::new(1),
-                link: u64::from(link),
-                at: 0,
-            },
-        );
+        put_waiting(rt, &mut inlet, gone(u64::from(link)));
     }
     inlet
 }

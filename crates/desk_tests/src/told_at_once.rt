@@ -3,12 +3,12 @@
 ghost use Rattle.std.specs.Prelude.{◌≡◌, [], ℕ, Some, slice_get, IfOk};
 ghost use Rattle.desk.specs.desk_ends.Rings.{Taking};
 
-use super::bell_of_port::nap;
+use super::bells::{is_not_rung, is_rung};
 use super::events::{logon, up};
+use super::lent::fixed_parts;
 use desk::{DeskName, Inlet, Outlet, Parts, Shared, open_desk};
 use desk_gates::{InletGate, OutletGate, OutletPen, Prompt};
 use gate_workers::Gate;
-use script_steps::fixed_settings;
 use std::alloc::Global;
 use std::hash::{BuildHasherDefault, FoldHasher};
 use std::io;
@@ -17,7 +17,7 @@ use std::marker::Brand;
 use std::process::Abort;
 use std::sync::{Mutex, Wait};
 use std::test::Fail;
-use std::time::{Clock, Duration};
+use std::time::Clock;
 
 /// A Logon to the first client at moment 0, as the answer to its own.
 ///
@@ -62,9 +62,8 @@ type FirstPen<'w, 'a, K> = OutletPen<Kept<'w>, OutletGate<'a, K, BuildHasherDefa
 /// The answer to a client's Logon is on its stream once its reader's gate has turned: nobody else was at work.
 #[test]
 fn a_turn_writes_what_it_told(rt: HostRuntime) -> Result<(), Fail> {
-    let alloc = rt.alloc();
-    let parts = Parts::new(alloc, fixed_settings(alloc)?)?;
-    writes::<Brand, _>(&rt, alloc, parts)
+    let parts = fixed_parts(rt.alloc())?;
+    writes::<Brand, _>(&rt, rt.alloc(), parts)
 }
 
 fn writes<K: DeskName, R: Wait + Abort + Clock>(
@@ -78,7 +77,7 @@ fn writes<K: DeskName, R: Wait + Abort + Clock>(
     let written = Mutex::new(Vec::new(alloc));
     log_on(rt, alloc, &shared, &written, inlets, outlets)?;
     let bytes = written.lock(rt);
-    assert_eq!(rt; bytes.as_slice(), ANSWER.as_slice());
+    assert!(rt; bytes.as_slice() == ANSWER.as_slice());
     Ok(())
 }
 
@@ -141,9 +140,8 @@ fn turn_with<'p, 'w, 'a, K: DeskName, R: Wait + Abort + Clock>(
     let mut gate = InletGate::new(shared, pens, inlet);
     assert!(rt; gate.put(up()).is_ok());
     assert!(rt; gate.put(logon(alloc)?).is_ok());
-    assert_eq!(rt; gate.turn(rt, alloc)?, 2);
-    assert!(rt; nap(rt, shared, 0, 50)? >= Duration::from_millis(40));
+    assert!(rt; gate.turn(rt, alloc)? == 2);
+    is_not_rung(rt, shared, 0)?;
     gate.wake_writer();
-    assert!(rt; nap(rt, shared, 0, 10_000)? < Duration::from_secs(5));
-    Ok(())
+    is_rung(rt, shared, 0)
 }

@@ -3,9 +3,10 @@
 ghost use Rattle.std.specs.Prelude.{◌≡◌};
 
 use super::ends::{clock_and_client, turns_to};
-use super::events::tick;
+use super::events::{gone, tick};
+use super::lent::fixed_parts;
 use desk::{DeskName, Inlet, Parts, Shared, open_desk};
-use script_steps::{ClientNumber, Event, fixed_settings};
+use script_steps::Event;
 use std::alloc::Global;
 use std::marker::Brand;
 use std::process::Abort;
@@ -20,10 +21,9 @@ const EACH: u32 = 100;
 /// Once both have gone nothing is left in their rings: what one put while the other turned, that one stepped.
 #[test]
 fn nothing_is_left(rt: HostRuntime) -> Result<(), Fail> {
-    let alloc = rt.alloc();
     for _ in 0..400 {
-        let parts = Parts::new(alloc, fixed_settings(alloc)?)?;
-        leaves_nothing::<Brand, _>(&rt, alloc, parts)?;
+        let parts = fixed_parts(rt.alloc())?;
+        leaves_nothing::<Brand, _>(&rt, rt.alloc(), parts)?;
     }
     Ok(())
 }
@@ -36,9 +36,19 @@ fn leaves_nothing<K: DeskName + Send + Sync, R: Threads + Wait + Sync + Abort>(
     requires named { (parts.inlets ≡ K.inlets) × (parts.outlets ≡ K.outlets) }
 {
     let (shared, inlets, _outlets) = open_desk::<K, _>(alloc, parts)?;
+    leave_nothing(rt, alloc, &shared, inlets)
+}
+
+/// Two threads put and turn, and then there is nothing to be stepped.
+fn leave_nothing<K: DeskName + Send + Sync, R: Threads + Wait + Sync + Abort>(
+    rt: &R,
+    alloc: Global,
+    shared: &Shared<K>,
+    inlets: Vec<Inlet<K>>,
+) -> Result<(), Fail> {
     let (clock, client) = clock_and_client(inlets)?;
-    turn_both(rt, alloc, &shared, clock, client)?;
-    Ok(turns_to(rt, alloc, &shared, 0, 0)?)
+    turn_both(rt, alloc, shared, clock, client)?;
+    Ok(turns_to(rt, alloc, shared, 0, 0)?)
 }
 
 /// The two threads.
@@ -74,12 +84,7 @@ fn put_ticks<K: DeskName>(alloc: Global, shared: &Shared<K>, inlet: Inlet<K>) ->
 fn put_gone<K: DeskName>(alloc: Global, shared: &Shared<K>, inlet: Inlet<K>) -> Inlet<K> {
     let mut inlet = inlet;
     for link in 0..EACH {
-        let gone = Event::ClientGone {
-            client: ClientNumber::new(1),
-            link: u64::from(link),
-            at: 0,
-        };
-        put_and_turn(alloc, shared, &mut inlet, gone);
+        put_and_turn(alloc, shared, &mut inlet, gone(u64::from(link)));
     }
     inlet
 }

@@ -3,6 +3,7 @@ pub mod Made
 pub mod Meets
 pub mod Issues
 pub mod Logons
+pub mod LogonFaults
 pub use Rattle.fix_fields.specs.Field
 pub use Rattle.session_writing.specs.fix_stamp.Stamp
 pub use Rattle.session_law.specs.Bounds

@@ -12,9 +12,11 @@ mod draft;
 mod issues;
 mod judge;
 mod logon;
+mod logon_fault;
 mod session;
 mod ticks;
 
+pub use logon_fault::LogonFault;
 pub use session::{IssuedTurn, Session, SessionTurn};
 pub use session_reading::application_of;
 pub use session_writing::{SessionOut, push_number};

@@ -1,7 +1,7 @@
 //! The session and its calls.
 
 ghost use Rattle.std.specs.Prelude.{◌≡◌, ◌≤◌, ◌<◌, ◌+◌, ◌^◌, ◌∷◌, ◌++◌, [], List, map, ℕ, length, nat_le};
-ghost use Rattle.std.specs.Prelude.{if◌then◌else◌, IfOk, OnErr, OnOk, Some, None, true, false};
+ghost use Rattle.std.specs.Prelude.{if◌then◌else◌, IfOk, OnErr, OnOk, Some, None, true, false, nat_lt};
 ghost use Rattle.session_law.specs.Session.{on_written};
 ghost use Rattle.session_law.specs.Table.{is_logged_on};
 
@@ -10,7 +10,8 @@ use crate::draft::{Draft, Resend, phase_heard};
 use crate::issues::kind_of;
 use crate::judge::{judge, judge_logon};
 use crate::logon::answer_logon;
-use crate::ticks::do_due;
+use crate::logon_fault::{LogonFault, logon_fault};
+use crate::ticks::{do_due, gives_anything};
 use fix_fields::{Fields, Text};
 use session_law::{IssuedReport, Kind, Logged, Phase};
 use session_reading::{AppBody, due_at};
@@ -130,6 +131,7 @@ impl Session {
     ghost use Rattle.session_writing.specs.Written.{told_bytes, told_frame};
     ghost use Rattle.fix_session.specs.Made.{made, resent_outs};
     ghost use Rattle.session_law.specs.Bounds.{MovesLittle};
+    ghost use Rattle.fix_session.specs.LogonFaults as faults;
 
     /// A session of a client with the gateway, by their names: no link, and number 1 on both sides.
     #[tactic(auto, unfolding(session_law::specs::Runs::Leaves))]
@@ -179,9 +181,17 @@ impl Session {
         self.given.undo();
     }
 
+    /// Whether the client is logged on.
+    pub fn is_logged_on(&self) -> bool
+        ensures { result ≡ is_logged_on self.now.session.phase }
+    {
+        matches!(self.phase, Phase::LoggedOn(_))
+    }
+
     /// The number of the next frame or issued body.
     pub fn next_out(&self) -> u64
-        ensures { (gate client : List ℕ) (h : SessionHistory) → Leaves gate client h self.now.session
+        ensures now { result ≡ next_out self.now.session }
+        ensures number { (gate client : List ℕ) (h : SessionHistory) → Leaves gate client h self.now.session
             → result ≡ length (given h) + 1 }
     {
         self.last() + 1
@@ -264,6 +274,24 @@ impl Session {
         ensures err { OnErr result (self.new ≡ self.old) }
     {
         self.tick_step(alloc, at)
+    }
+
+    /// Whether anything is due at this moment: whether a tick would give the link anything. One that gives it nothing
+    /// changes no more than the session's latest moment. Takes no memory.
+    pub fn is_due(&self, at: u64) -> bool
+        ensures { result ≡ nat_lt 0 (length (step self.now.session at OnTick).outs) }
+    {
+        gives_anything(due_at(self.phase, self.latest.max(at)))
+    }
+
+    /// Why a message of a link that isn't logged on is answered by the link's end alone; `None` of a Logon that is
+    /// answered. Takes no memory.
+    ///
+    /// Source: FIX 4.4 Volume 2, "Logon".
+    pub fn logon_fault(&self, m: &Fields) -> Option<LogonFault>
+        ensures { result ≡ faults.logon_fault self.now.session m.now }
+    {
+        logon_fault(self, m)
     }
 
     /// The link came up, or went. It takes no memory.

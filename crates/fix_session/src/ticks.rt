@@ -1,7 +1,7 @@
 //! What a tick brings.
 
-ghost use Rattle.std.specs.Prelude.{◌≡◌, OnOk};
-ghost use Rattle.session_law.specs.Session.{quiet, answered};
+ghost use Rattle.std.specs.Prelude.{◌≡◌, OnOk, length, nat_lt};
+ghost use Rattle.session_law.specs.Session.{State, quiet, answered};
 ghost use Rattle.session_reading.specs.Due.{due_answer};
 ghost use Rattle.fix_session.specs.Made.{made};
 
@@ -29,5 +29,15 @@ pub fn do_due(
         Due::NoAnswer => draft.log_out(alloc, session, b"no answer"),
         Due::TestRequest => draft.test(alloc, session),
         Due::Heartbeat => draft.say(session, Kind::Heartbeat, Fields::new(alloc)),
+    }
+}
+
+/// Whether what is due gives the link anything.
+pub fn gives_anything(due: Due) -> bool
+    ensures { (s : State) → result ≡ nat_lt 0 (length (answered s (due_answer due)).outs) }
+{
+    match due {
+        Due::Nothing => false,
+        Due::Close | Due::NoAnswer | Due::TestRequest | Due::Heartbeat => true,
     }
 }

@@ -19,6 +19,7 @@ pub mod Histories
 mod Naming
 mod Fields
 mod Standing
+mod Shown
 pub mod Sent
 pub use Rattle.soup_session.proofs as soup_session
 pub use Rattle.order_core.proofs.order_machine as order_machine

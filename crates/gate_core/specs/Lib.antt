@@ -4,6 +4,7 @@ pub mod Hearing
 pub mod Targets
 pub mod Expected
 pub mod Core
+pub mod Board
 pub use Rattle.gate_events.specs.Seen
 pub use Rattle.gate_law.specs.After
 pub use Rattle.gate_law.specs.Events

@@ -4,11 +4,14 @@
 //! Source: FIX 4.4 Volumes 2 and 4; OUCH 4.2; SoupBinTCP 3.00.
 #![tactic(auto)]
 
+mod board;
 mod parts;
+mod rows;
 mod runs;
 mod targets;
 mod whole;
 
+pub use board::{Board, ClientRow, PortRow};
 pub use fix_fields::Text;
 pub use gate_events::{Batch, ClientFrame, ClientNumber, Event, LinkOut, PortNumber};
 pub use gate_settings::{ClientSettings, ClientTerms, PortSettings, Settings};
@@ -16,6 +19,6 @@ pub use ouch_codec::EnterOrder;
 pub use runs::run_all;
 pub use session_law::IssuedReport;
 pub use short_list::ShortList;
-pub use soup_session::{PortFault, PortSession};
+pub use soup_session::{PortFault, PortSession, PortState};
 pub use targets::Targets;
 pub use whole::Core;

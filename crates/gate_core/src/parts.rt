@@ -3,6 +3,7 @@
 mod client_frames;
 mod client_links;
 mod client_messages;
+mod due;
 mod event_targets;
 mod events;
 pub(crate) mod new;

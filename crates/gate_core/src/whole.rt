@@ -2,10 +2,14 @@
 
 ghost use Rattle.std.specs.Prelude.{[], ◌∷◌, ◌≡◌, length, IfOk, OnErr};
 
+use crate::board::Board;
 use crate::parts::Parts;
 use crate::parts::new::{orders, orders_with_hasher};
+use crate::rows::{client_rows, port_rows};
 use crate::targets::Targets;
-use gate_events::{Batch, Event};
+use fix_fields::Fields;
+use fix_session::LogonFault;
+use gate_events::{Batch, ClientNumber, Event};
 use gate_settings::Settings;
 use order_core::OrderCore;
 use soup_session::PortFault;
@@ -91,9 +95,10 @@ impl<S: BuildHasher + Drop> Core<S> {
     ghost use Rattle.gate_law.specs.After.{lists};
     ghost use Rattle.gate_law.specs.Holds.{Holds};
     ghost use Rattle.gate_law.specs.Promises.{IsAmong};
+    ghost use Rattle.gate_core.specs.Board.{IsBoard};
     ghost use Rattle.gate_core.specs.Core.{IsAfter, turn_of};
     ghost use Rattle.order_core.specs.State.{IsAfterTurns, core_clients, core_numbers};
-    ghost use Rattle.gate_core.specs.Expected.{fault_now, next_expected};
+    ghost use Rattle.gate_core.specs.Expected.{event_due, fault_now, logon_fault_now, next_expected};
     ghost use Rattle.gate_events.specs.Seen.{event_seen};
     ghost use Rattle.gate_core.specs.Targets.{client_for, port_for};
 
@@ -203,11 +208,51 @@ impl<S: BuildHasher + Drop> Core<S> {
         self.parts.next_in(client)
     }
 
+    /// Whether this event gives anything, or may: `false` of a tick for which the session's table has no row just now, and
+    /// of one for a client or port that the settings don't have. Such a tick gives an empty batch, and changes no more
+    /// than the session's latest moment: whoever has time pass may leave it out. Takes no memory.
+    pub fn is_due(&self, alloc: Global, event: &Event) -> bool
+        ensures { (s : law.Settings) (before : History) → IsAfter s before self.now
+            → result ≡ event_due s (lists s before) (event_seen event.now) }
+    {
+        self.parts.is_due(alloc, event)
+    }
+
+    /// Why a frame of a client's link that isn't logged on is answered by the link's end alone; `None` of a Logon that is
+    /// answered, and of a client that the settings don't have. Takes no memory.
+    ///
+    /// Source: FIX 4.4 Volume 2, "Logon".
+    pub fn logon_fault(&self, client: ClientNumber, frame: &Fields) -> Option<LogonFault>
+        ensures { (s : law.Settings) (before : History) → IsAfter s before self.now
+            → result ≡ logon_fault_now s client ((lists s before).client_calls client) frame.now }
+    {
+        self.parts.logon_fault(client, frame)
+    }
+
     /// Why a port is faulted; `None` of one that isn't, and of one that the settings don't have. Takes no memory.
     pub fn port_fault(&self, port: u16) -> Option<PortFault>
         ensures { (s : law.Settings) (before : History) → IsAfter s before self.now
             → result ≡ fault_now s port ((lists s before).port_calls port) }
     {
         self.parts.port_fault(port)
+    }
+
+    /// How all clients and ports stand, and how many events were stepped. It goes through no order: its time is that of
+    /// a few numbers for each client and port.
+    pub fn board(&self, alloc: Global) -> Result<Board, AllocError>
+        ensures { IfOk result (λ board. (s : law.Settings) (before : History) → IsAfter s before self.now
+            → IsBoard s before board) }
+    {
+        let clients = client_rows(
+            alloc,
+            self.parts.clients.lines.as_slice(),
+            &self.parts.orders,
+        )?;
+        let ports = port_rows(alloc, self.parts.ports.lines.as_slice())?;
+        Ok(Board {
+            events: self.events,
+            clients,
+            ports,
+        })
     }
 }

@@ -3,10 +3,10 @@
 ghost use Rattle.std.specs.Prelude.{◌≡◌, ℕ, List, [], None, true, false};
 ghost use Rattle.gate_law.specs.session_law.Runs.{Timed};
 ghost use Rattle.gate_law.specs.Settings.{Settings, client_name};
-ghost use Rattle.gate_sessions.specs.Leaving.{ClientLeaves, expected_in};
+ghost use Rattle.gate_sessions.specs.Leaving.{ClientLeaves, expected_in, is_client_due, logon_fault_in};
 ghost use Rattle.gate_sessions.specs.Lines.{client_now, client_settled};
 
-use fix_session::{IssuedTurn, Session, SessionTurn};
+use fix_session::{IssuedTurn, LogonFault, Session, SessionTurn};
 use fix_types::AppBody;
 use gate_law::{Fields, Text};
 use std::alloc::{AllocError, Global};
@@ -72,6 +72,22 @@ impl ClientLine {
             self.session.settle();
             self.is_touched = true;
         }
+    }
+
+    /// Whether a tick of this moment would give the client's link anything. Takes no memory.
+    pub fn is_due(&self, at: u64) -> bool
+        ensures { (s : Settings) (c : ℕ) (calls : List Timed) → ClientLeaves s c calls self.now.session.session
+            → result ≡ is_client_due s c calls at }
+    {
+        self.session.is_due(at)
+    }
+
+    /// Why a frame of a link that isn't logged on is answered by the link's end alone. Takes no memory.
+    pub fn logon_fault(&self, frame: &Fields) -> Option<LogonFault>
+        ensures { (s : Settings) (c : ℕ) (calls : List Timed) → ClientLeaves s c calls self.now.session.session
+            → result ≡ logon_fault_in s c calls frame.now }
+    {
+        self.session.logon_fault(frame)
     }
 
     /// The number that is expected of the client's next frame (MsgSeqNum, 34), from 1.

@@ -5,7 +5,7 @@ ghost use Rattle.gate_law.specs.soup_session.Table.{PortCall};
 ghost use Rattle.gate_law.specs.soup_session.Calls.{next_of};
 ghost use Rattle.gate_law.specs.Settings.{Settings, port_terms};
 ghost use Rattle.gate_law.specs.Sessions.{port_state};
-ghost use Rattle.gate_sessions.specs.Leaving.{PortLeaves};
+ghost use Rattle.gate_sessions.specs.Leaving.{PortLeaves, is_port_due};
 ghost use Rattle.gate_sessions.specs.Lines.{port_now, port_settled};
 
 use gate_law::{PortFault, PortSession, PortState, PortTurn};
@@ -47,6 +47,14 @@ impl PortLine {
             session: PortSession::new(user, password),
             settled_link: None,
         }
+    }
+
+    /// Whether a tick of this moment would give the port's link anything. Takes no memory.
+    pub fn is_due(&self, alloc: Global, at: u64) -> bool
+        ensures { (s : Settings) (p : ℕ) (calls : List PortCall) → PortLeaves s p calls self.now.session.port
+            → result ≡ is_port_due s p calls at }
+    {
+        self.session.is_due(alloc, at)
     }
 
     /// How the port stands.

@@ -1,19 +1,23 @@
 //! The order gateway's program: runs a gateway by its settings, shows one, and audits scripts.
 #![tactic(auto)]
 
-use gateway_command::{Asked, asked, links_of};
+ghost use Rattle.std.specs.Prelude.{◌≤◌};
+
+use day_export::{Format, export_day, format_of};
+use gateway_command::{Asked, Error, asked, is_version, links_of};
 use gateway_demo::{Choice, show_demo};
 use gateway_run::{
-    Day, RunFault, SettingsFault, SettingsFile, audit_day, end_day, read, run_settings, tell,
+    Day, DayJournal, RunFault, SettingsFault, SettingsFile, audit_day, end_day, read, run_settings,
+    tell,
 };
 use journal_audit::{audit_file, script_file};
+use journal_file::{DayFile, Ending, FileFault, PageFault, read_file};
 use script_command::{audit_script, tell_refusal};
 use std::alloc::Global;
-use std::fs::{File, OpenOptions};
+use std::fs::{File, Files};
 use std::hash::RandomState;
-use std::io::{self, BufWriter, ErrorKind, Write};
+use std::io::{self, BufWriter, ErrorKind, Read, Write};
 use std::net::{Net, TcpListener, TcpStream};
-use std::os::unix::fs::OpenOptionsExt;
 use std::process::ExitCode;
 use std::random::RandomSource;
 use std::sync::{Arc, Wait};
@@ -22,10 +26,16 @@ use std::time::{Clock, Duration};
 use std::{env, fs};
 use stderr_queue::{LineQueue, Queued, start_writer};
 
+mod journal;
 #[cfg(test)]
 mod missing_files;
+mod played;
 mod served;
+#[cfg(test)]
+mod world_numbers;
 
+use journal::journal_at;
+use played::{asked_shape, play_world};
 use served::{asked_serve, end_served, serve_until_told};
 
 fn main(rt: HostRuntime) -> ExitCode {
@@ -54,13 +64,38 @@ fn main(rt: HostRuntime) -> ExitCode {
             Err(status) => status,
         },
         Ok(Some(Asked::End { settings, at_once })) => end_served(&rt, settings, at_once),
+        Ok(Some(Asked::Export { journal, format })) => export_journal(&rt, journal, format),
+        Ok(
+            Some(
+                Asked::World {
+                    seed,
+                    steps,
+                    clients,
+                    ports,
+                },
+            ),
+        ) => match asked_shape(&rt, seed, steps, clients, ports) {
+            Ok(shape) => play_world(&rt, &shape),
+            Err(status) => status,
+        },
         Ok(Some(Asked::Demo)) => demonstrate(&rt, rt.alloc(), &mut rt.stderr()),
         Ok(None) => refused(
             &rt,
             "an audit is of --script FILE, or of --journal FILE with --settings FILE",
         ),
-        Err(error) => ExitCode::from(tell_refusal(&error, &mut io::writer(&rt), &mut rt.stderr())),
+        Err(error) => ExitCode::from(unasked(&error, &mut io::writer(&rt), &mut rt.stderr())),
     }
+}
+
+/// Tells what a command line came to that asks for nothing: the version, the help, or why it is refused. The status is
+/// 0 for the first two, where they could be written.
+fn unasked<W: Write, F: Write>(error: &Error, output: &mut W, faults: &mut F) -> u8
+    ensures { result ≤ 2 }
+{
+    if is_version(error) {
+        return u8::from(write!(output, "{error}").is_err());
+    }
+    tell_refusal(error, output, faults)
 }
 
 /// The words of the command line, or the status where they can't be had.
@@ -133,6 +168,52 @@ fn audit_day_of(rt: &HostRuntime, day: &[u8], file: &SettingsFile) -> ExitCode {
     ExitCode::from(status)
 }
 
+/// Prints the messages of the day that a journal's file keeps.
+fn export_journal(rt: &HostRuntime, journal: &str, format: Option<&str>) -> ExitCode {
+    let Some(format) = format_of(format) else {
+        return refused(rt, "--format is csv, json or messages");
+    };
+    match file_at(rt, journal) {
+        Ok(day) => export_of(rt, day.as_slice(), format),
+        Err(status) => status,
+    }
+}
+
+/// The same of a journal's bytes.
+fn export_of(rt: &HostRuntime, day: &[u8], format: Format) -> ExitCode {
+    match read_file(rt.alloc(), day) {
+        Ok(read) => export_read(rt, &read, format),
+        Err((page, fault)) => damaged(rt, page, fault),
+    }
+}
+
+/// Tells that a journal's file is damaged, and where.
+fn damaged(rt: &HostRuntime, page: u32, fault: FileFault) -> ExitCode {
+    if matches!(fault, FileFault::Page(PageFault::NoMemory)) {
+        return out_of_memory(rt);
+    }
+    let _ = eprintln!(rt; "page {page}: {fault}");
+    ExitCode::from(2)
+}
+
+/// Prints the messages of a day that was read, and tells where it goes on.
+fn export_read(rt: &HostRuntime, read: &DayFile, format: Format) -> ExitCode {
+    let alloc = rt.alloc();
+    if read.ending != Ending::Over {
+        let _ = eprintln!(rt; "the day goes on");
+    }
+    let Ok(mut output) = BufWriter::new(alloc, io::writer(rt)) else {
+        return out_of_memory(rt);
+    };
+    match export_day(alloc, format, &read.day, &mut output) {
+        Ok(()) => ExitCode::from(0),
+        Err(fault) => {
+            let _ = eprintln!(rt; "{fault}");
+            ExitCode::from(1)
+        }
+    }
+}
+
 /// The settings in a file, or the status where they are refused.
 fn settings_at(rt: &HostRuntime, path: &str) -> Result<SettingsFile, ExitCode> {
     let text = file_at(rt, path)?;
@@ -149,58 +230,39 @@ fn settings_at(rt: &HostRuntime, path: &str) -> Result<SettingsFile, ExitCode> {
 /// A gateway that is to be run: its settings, how many links of each client are served, and where its day's journal
 /// goes.
 #[derive(Drop)]
-struct AskedRun {
+struct AskedRun<'a> {
     file: SettingsFile,
     links: u16,
-    journal: Option<File>,
+    journal: Option<DayJournal>,
+    /// Where the journal is.
+    path: Option<&'a str>,
 }
 
-/// What `run` asks for, or the status where it is refused. The journal's file is made, and may not be there before.
-fn asked_run(
+/// What `run` asks for, or the status where it is refused. A journal's file is made, or is of a day that goes on.
+fn asked_run<'a>(
     rt: &HostRuntime,
     settings: &str,
     links: Option<&str>,
-    journal: Option<&str>,
-) -> Result<AskedRun, ExitCode> {
+    path: Option<&'a str>,
+) -> Result<AskedRun<'a>, ExitCode> {
     let Some(links) = links_of(links) else {
         return Err(refused(rt, "--links is a number from 1 to 1000"));
     };
     let file = settings_at(rt, settings)?;
-    let journal = match journal {
-        Some(path) => Some(new_file(rt, path)?),
+    let journal = match path {
+        Some(path) => Some(journal_at(rt, path)?),
         None => None,
     };
     Ok(AskedRun {
         file,
         links,
         journal,
+        path,
     })
 }
 
-/// A file that is made new, which its owner alone may read and write, or the status where it can't be.
-fn new_file(rt: &HostRuntime, path: &str) -> Result<File, ExitCode> {
-    let mut options = OpenOptions::new();
-    match options
-        .write(true)
-        .create_new(true)
-        .mode(0o600)
-        .open(rt, path)
-    {
-        Ok(file) => Ok(file),
-        Err(error) if error.kind() == ErrorKind::OutOfMemory => Err(out_of_memory(rt)),
-        Err(error) if error.kind() == ErrorKind::AlreadyExists => {
-            let _ = eprintln!(rt; "gateway: {path} is there already");
-            Err(ExitCode::from(2))
-        }
-        Err(_) => {
-            let _ = eprintln!(rt; "gateway: cannot write {path}");
-            Err(ExitCode::from(2))
-        }
-    }
-}
-
 /// Runs a gateway by its settings, and ends its day.
-fn serve_file<R, F: Write>(rt: &R, alloc: Global, asked: AskedRun, faults: &mut F) -> ExitCode
+fn serve_file<R, F: Write>(rt: &R, alloc: Global, asked: AskedRun<'_>, faults: &mut F) -> ExitCode
 where
     R: Threads
         + Wait
@@ -208,6 +270,7 @@ where
         + Clock
         + Net<Listener = TcpListener, Stream = TcpStream>
         + RandomSource
+        + Files<File = File>
         + Print
         + Eprint
         + Copy
@@ -230,12 +293,13 @@ where
         file,
         links,
         journal,
+        path,
     } = asked;
     let queued = Queued::new(*rt, &lines);
-    let ran = run_settings(&queued, alloc, hasher, file, u32::from(links));
+    let ran = run_settings(&queued, alloc, hasher, file, u32::from(links), journal);
     lines.end(rt);
     let status = match ran {
-        Ok(day) => ended(alloc, &day, journal, &mut output, faults),
+        Ok(day) => ended(rt, alloc, &day, path, &mut output, faults),
         Err(fault) => tell(fault, faults),
     };
     ExitCode::from(status)
@@ -253,18 +317,35 @@ where
     }
 }
 
-/// Ends a day: writes its journal, where there is to be one, and its audit.
-fn ended<W: Write, F: Write>(
+/// Ends a day: writes its audit, and looks whether its journal has it, where there is one. The status is 0 where all
+/// orders agree and it has.
+fn ended<R: Files<File = File>, W: Write, F: Write>(
+    rt: &R,
     alloc: Global,
     day: &Day,
-    journal: Option<File>,
+    journal: Option<&str>,
     output: &mut W,
     faults: &mut F,
 ) -> u8 {
-    match journal {
-        Some(mut journal) => end_day(alloc, day, &mut journal, output, faults),
-        None => audit_day(alloc, day, output, faults),
+    let Some(path) = journal else {
+        return audit_day(alloc, day, output, faults);
+    };
+    match bytes_at(rt, alloc, path) {
+        Ok(file) => end_day(alloc, day, file.as_slice(), output, faults),
+        Err(_) => {
+            let audited = audit_day(alloc, day, output, faults);
+            let _ = writeln!(faults, "gateway: cannot read {path}");
+            audited.max(1)
+        }
     }
+}
+
+/// The bytes of a file.
+fn bytes_at<R: Files<File = File>>(rt: &R, alloc: Global, path: &str) -> io::Result<Vec<u8>> {
+    let mut file = File::open(rt, path)?;
+    let mut bytes = Vec::new(alloc);
+    let _ = file.read_to_end(&mut bytes)?;
+    Ok(bytes)
 }
 
 /// Shows a gateway on loopback.

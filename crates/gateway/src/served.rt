@@ -1,13 +1,14 @@
 //! `serve` and `end`.
 
-use super::{ended, file_at, lines_of, new_file, no_seed, out_of_memory};
-use gateway_run::{RunFault, SettingsFault, SettingsFile, read, tell};
+use super::journal::journal_at;
+use super::{ended, file_at, lines_of, no_seed, out_of_memory};
+use gateway_run::{DayJournal, RunFault, SettingsFault, SettingsFile, read, tell};
 use gateway_serve::{
     Bound, ControlSettings, OperatorFault, OperatorSettings, Told, bind_all, read_operator,
     serve_day, tell_end, tell_open_orders,
 };
 use std::alloc::Global;
-use std::fs::File;
+use std::fs::{File, Files};
 use std::hash::RandomState;
 use std::io::{self, BufWriter, Write};
 use std::net::{Net, TcpListener, TcpStream};
@@ -20,11 +21,13 @@ use std::time::Clock;
 /// A gateway that is to be served until it is told to end: its settings, its listeners, and where its day's journal
 /// goes.
 #[derive(Drop)]
-pub(crate) struct AskedServe {
+pub(crate) struct AskedServe<'a> {
     file: SettingsFile,
     operator: OperatorSettings,
     bound: Bound,
-    journal: Option<File>,
+    journal: Option<DayJournal>,
+    /// Where the journal is.
+    path: Option<&'a str>,
 }
 
 /// What a settings file says, of the gateway and of its operator, or the status where it is refused.
@@ -53,19 +56,19 @@ fn refused_key(rt: &HostRuntime, key: &str) -> ExitCode {
 
 /// What `serve` asks for, or the status where it is refused: of settings, of a journal that can't be made new, or of an
 /// address that can't be listened at. Nothing is connected before all of it is there.
-pub(crate) fn asked_serve(
+pub(crate) fn asked_serve<'a>(
     rt: &HostRuntime,
     settings: &str,
-    journal: Option<&str>,
-) -> Result<AskedServe, ExitCode> {
+    path: Option<&'a str>,
+) -> Result<AskedServe<'a>, ExitCode> {
     let (file, operator) = all_settings_at(rt, settings)?;
     let bound = match bind_all(rt, rt.alloc(), &file.listens, &operator.control) {
         Ok(Some(bound)) => bound,
         Ok(None) => return Err(ExitCode::from(2)),
         Err(_) => return Err(out_of_memory(rt)),
     };
-    let journal = match journal {
-        Some(path) => Some(new_file(rt, path)?),
+    let journal = match path {
+        Some(path) => Some(journal_at(rt, path)?),
         None => None,
     };
     Ok(AskedServe {
@@ -73,6 +76,7 @@ pub(crate) fn asked_serve(
         operator,
         bound,
         journal,
+        path,
     })
 }
 
@@ -80,7 +84,7 @@ pub(crate) fn asked_serve(
 pub(crate) fn serve_until_told<R, F: Write>(
     rt: &R,
     alloc: Global,
-    asked: AskedServe,
+    asked: AskedServe<'_>,
     faults: &mut F,
 ) -> ExitCode
 where
@@ -90,6 +94,7 @@ where
         + Clock
         + Net<Listener = TcpListener, Stream = TcpStream>
         + RandomSource
+        + Files<File = File>
         + Print
         + Eprint
         + Copy
@@ -109,6 +114,7 @@ where
         operator,
         bound,
         journal,
+        path,
     } = asked;
     let lines = match lines_of(rt, alloc) {
         Ok(lines) => lines,
@@ -117,13 +123,16 @@ where
     let Ok(theirs) = Arc::try_clone(&lines) else {
         return ExitCode::from(tell(RunFault::NoMemory, faults));
     };
-    let ran = serve_day(rt, alloc, hasher, file, operator, bound, theirs);
+    let ran = serve_day(rt, alloc, hasher, file, operator, bound, theirs, journal);
     lines.end(rt);
     let status = match ran {
         Ok(day) => {
-            let status = ended(alloc, &day, journal, &mut output, faults);
-            tell_open_orders(alloc, &day, faults);
-            status
+            let status = ended(rt, alloc, &day, path, &mut output, faults);
+            if tell_open_orders(alloc, &day, faults) {
+                status
+            } else {
+                status.max(1)
+            }
         }
         Err(fault) => tell(fault, faults),
     };

@@ -1,8 +1,9 @@
 -- The command line of `gateway`: `audit --script FILE` or `audit --journal FILE --settings FILE`, `journal --script
 -- FILE`, `run --settings FILE [--links N] [--journal FILE]`, `serve --settings FILE [--journal FILE]`, `end --settings
--- FILE [--now]`, `demo`, and nothing else but a call for help.
-use Rattle.std.specs.Prelude.{ℕ, Bool, true, false, List, Option, Some, None, codes, if◌then◌else◌, option_and_then, option_map}
-use Rattle.std.specs.Prelude.{nat_le, ◌&&◌}
+-- FILE [--now]`, `export --journal FILE [--format FORMAT]`, `demo`, `world --seed N --steps K [--clients C] [--ports
+-- P]`, and nothing else but a call for help or `--version`.
+use Rattle.std.specs.Prelude.{ℕ, Bool, true, false, List, Option, Some, None, codes, if◌then◌else◌, option_and_then}
+use Rattle.std.specs.Prelude.{option_map, nat_le, ◌&&◌, ◌==◌, length, not}
 use Rattle.std.specs.Char.{is_ascii_digit}
 use Rattle.std.specs.List.{list_all}
 use Rattle.std.specs.Str.{bytes_eq}
@@ -11,6 +12,8 @@ use Rattle.clap.specs.Simple.{new_shape}
 use Rattle.clap.specs.Words.{App, Row, Rule, Text, Kinds, fault_of, first_of, new_app, new_rule, subcommand_of}
 use Rattle.clap.specs.Words.{with_rule, with_subcommand}
 use Rattle.clap.specs.declared.builder.action.ArgAction.TheVariants.{Set, SetTrue}
+use Rattle.clap.specs.declared.error.kind.ErrorKind.{ErrorKind}
+use Rattle.clap.specs.declared.error.kind.ErrorKind.TheVariants as kinds
 
 -- an option with a value, as `--script FILE`
 abbrev pub value_rule : Text → Rule
@@ -55,15 +58,29 @@ serves =
 abbrev pub ends : App
 ends = with_rule (with_rule (new_app (codes "end")) (required_rule (codes "settings"))) (flag_rule (codes "now"))
 
+-- `export --journal FILE [--format NAME]`
+abbrev pub exports : App
+exports =
+    with_rule (with_rule (new_app (codes "export")) (required_rule (codes "journal"))) (value_rule (codes "format"))
+
 -- `demo`
 abbrev pub demo : App
 demo = new_app (codes "demo")
 
--- `gateway`, which nothing may follow but a subcommand; alone it asks for help
+-- `world --seed N --steps K [--clients C] [--ports P]`
+abbrev pub world : App
+world =
+    with_rule
+    (with_rule
+    (with_rule (with_rule (new_app (codes "world")) (required_rule (codes "seed"))) (required_rule (codes "steps")))
+    (value_rule (codes "clients")))
+    (value_rule (codes "ports"))
+
+-- `gateway`, which nothing may follow but a subcommand, or `--version`; alone it asks for help
 abbrev pub alone : App
 alone = record (new_app (codes "gateway")) {
   top = record
-      (new_shape (codes "gateway")) { subcommand_required = true; arg_required_else_help = true };
+      (new_shape (codes "gateway")) { subcommand_required = true; arg_required_else_help = true; has_version = true };
 }
 
 -- a command with a subcommand more
@@ -74,8 +91,12 @@ with_command command more = with_subcommand command more.top
 abbrev pub gateway : App
 gateway =
     with_command
+    (with_command
+    (with_command
     (with_command (with_command (with_command (with_command (with_command alone runs) serves) ends) demo) audit)
-    journal
+    exports)
+    journal)
+    world
 
 -- the subcommand that `clap` finds in the words of a command line, with its arguments, and why it refuses them
 unfoldable pub gateway_found : List Text → Option (Text × List Row)
@@ -85,9 +106,9 @@ unfoldable pub gateway_faults : List Text → Kinds
 gateway_faults words = fault_of gateway words
 
 -- what a command line asks for: the audit of a script's file; that of the day in a journal's file, by the settings in a
--- file; the day of a script's file as a journal; a gateway by the settings in a file, with so many links, or until it is
--- told to end, and a file for its journal; the end of the gateway that is served by the settings in a file, at once or
--- not; or the demonstration
+-- file; the day of a script's file as a journal; a gateway by the settings in a file, with so many links, or until it
+-- is told to end, and a file for its journal; the end of the gateway that is served by the settings in a file, at once
+-- or not; the messages of a journal's file, in a format; the demonstration; or the closed world of a seed, with so many steps, clients and ports
 pub data Asking : Type 0 where
   Audits : (script : Text) → Asking
   AuditsDay : (journal : Text) (settings : Text) → Asking
@@ -95,7 +116,9 @@ pub data Asking : Type 0 where
   Runs : (settings : Text) (links : Option Text) (journal : Option Text) → Asking
   Serves : (settings : Text) (journal : Option Text) → Asking
   Ends : (settings : Text) (at_once : Bool) → Asking
+  Exports : (journal : Text) (format : Option Text) → Asking
   Demonstrates : Asking
+  Plays : (seed steps : Text) (clients ports : Option Text) → Asking
 
 -- What a subcommand asks for, by its name and its arguments. An audit is of a script alone, or of a journal with its
 -- settings; of anything else it is none.
@@ -143,6 +166,22 @@ abbrev pub end_asked : List Row → Option Asking
 end_asked rows =
     option_map (λ (file : Text). Ends file (is_said (first_of (codes "now") rows))) (first_of (codes "settings") rows)
 
+abbrev pub export_asked : List Row → Option Asking
+export_asked rows =
+    option_map (λ (file : Text). Exports file (first_of (codes "format") rows)) (first_of (codes "journal") rows)
+
+abbrev pub steps_asked : Text → List Row → Option Asking
+steps_asked seed rows = option_map
+    (λ (steps : Text). Plays seed steps (first_of (codes "clients") rows) (first_of (codes "ports") rows))
+    (first_of (codes "steps") rows)
+
+abbrev pub with_seed_asked : Option Text → List Row → Option Asking
+with_seed_asked None rows = None
+with_seed_asked (Some seed) rows = steps_asked seed rows
+
+abbrev pub world_asked : List Row → Option Asking
+world_asked rows = with_seed_asked (first_of (codes "seed") rows) rows
+
 unfoldable pub asking_of : Text → List Row → Option Asking
 asking_of name rows =
     if bytes_eq name (codes "audit") then audit_asked rows
@@ -151,6 +190,8 @@ asking_of name rows =
     else if bytes_eq name (codes "serve") then serve_asked rows
     else if bytes_eq name (codes "end") then end_asked rows
     else if bytes_eq name (codes "demo") then Some Demonstrates
+    else if bytes_eq name (codes "export") then export_asked rows
+    else if bytes_eq name (codes "world") then world_asked rows
     else None
 
 abbrev pub asked_in : Option (Text × List Row) → Option Asking
@@ -159,6 +200,11 @@ asked_in = option_and_then (λ p. asking_of p.0 p.1)
 -- what the words ask for
 abbrev pub asked_of : List Text → Option Asking
 asked_of words = asked_in (gateway_found words)
+
+-- the version is asked for
+abbrev pub is_version : ErrorKind → Bool
+is_version kinds.DisplayVersion = true
+is_version other = false
 
 -- how many links of each client are served: digits, for 1 to 1,000; 1 where nothing is said
 abbrev pub links_in : Text → Option ℕ
@@ -169,3 +215,9 @@ links_in digits =
 unfoldable pub links_of : Option Text → Option ℕ
 links_of None = Some 1
 links_of (Some digits) = links_in digits
+
+-- a number that was said: digits, one at least, for one from the least to the most
+abbrev pub number_between : ℕ → ℕ → Text → Option ℕ
+number_between least most digits =
+    if not (length digits == 0) && list_all is_ascii_digit digits && nat_le least (number_of digits)
+    && nat_le (number_of digits) most then Some (number_of digits) else None

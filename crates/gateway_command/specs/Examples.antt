@@ -3,8 +3,8 @@ use Rattle.std.specs.Prelude.{◌≡◌, refl, true, false, List, [], ◌∷◌,
 use Rattle.clap.specs.Words.{Text, Kinds}
 use Rattle.clap.specs.declared.error.kind.ErrorKind.TheVariants as kind
 use Rattle.clap.proofs.OnLiterals.{clap_on_literals}
-use Rattle.gateway_command.specs.Command.{Asking, Audits, AuditsDay, Demonstrates, Ends, Keeps, Runs, Serves}
-use Rattle.gateway_command.specs.Command.{asking_of, asked_of, gateway_found, gateway_faults, links_of}
+use Rattle.gateway_command.specs.Command.{Asking, Audits, AuditsDay, Demonstrates, Ends, Keeps, Plays, Runs, Serves}
+use Rattle.gateway_command.specs.Command.{asking_of, asked_of, gateway_found, gateway_faults, links_of, number_between}
 
 abbrev line : List Text → List Text
 line words = codes "gateway" ∷ words
@@ -85,6 +85,23 @@ a_demonstration : Asks (codes "demo" ∷ []) Demonstrates
 unfolding clap_on_literals gateway_found gateway_faults asking_of
 a_demonstration = (refl, refl)
 
+a_world : Asks (codes "world" ∷ codes "--seed" ∷ codes "7" ∷ codes "--steps" ∷ codes "300" ∷ [])
+    (Plays (codes "7") (codes "300") None None)
+unfolding clap_on_literals gateway_found gateway_faults asking_of
+a_world = (refl, refl)
+
+a_world_of_two_ports :
+    Asks
+    (codes "world" ∷ codes "--ports" ∷ codes "2" ∷ codes "--seed" ∷ codes "7" ∷ codes "--clients" ∷ codes "3"
+    ∷ codes "--steps" ∷ codes "300" ∷ [])
+    (Plays (codes "7") (codes "300") (Some (codes "3")) (Some (codes "2")))
+unfolding clap_on_literals gateway_found gateway_faults asking_of
+a_world_of_two_ports = (refl, refl)
+
+a_world_without_steps : Refuses (codes "world" ∷ codes "--seed" ∷ codes "7" ∷ []) (kind.MissingRequiredArgument ∷ [])
+unfolding clap_on_literals gateway_faults
+a_world_without_steps = refl
+
 a_missing_file : Refuses (codes "audit" ∷ codes "--script" ∷ []) (kind.InvalidValue ∷ [])
 unfolding clap_on_literals gateway_faults
 a_missing_file = refl
@@ -150,6 +167,15 @@ help_of_gateway : Refuses (codes "--help" ∷ []) (kind.DisplayHelp ∷ [])
 unfolding clap_on_literals gateway_faults
 help_of_gateway = refl
 
+the_version : Refuses (codes "--version" ∷ []) (kind.DisplayVersion ∷ [])
+unfolding clap_on_literals gateway_faults
+the_version = refl
+
+-- a subcommand has none of its own
+the_version_of_serve : Refuses (codes "serve" ∷ codes "--version" ∷ []) (kind.UnknownArgument ∷ [])
+unfolding clap_on_literals gateway_faults
+the_version_of_serve = refl
+
 help_of_audit : Refuses (codes "audit" ∷ codes "--help" ∷ []) (kind.DisplayHelp ∷ [])
 unfolding clap_on_literals gateway_faults
 help_of_audit = refl
@@ -190,3 +216,22 @@ no_digits = refl
 a_sign : links_of (Some (codes "+1")) ≡ None
 unfolding links_of
 a_sign = refl
+
+-- numbers in their range
+the_least_number : number_between 1 64 (codes "1") ≡ Some 1
+the_least_number = refl
+
+the_greatest_number : number_between 1 64 (codes "64") ≡ Some 64
+the_greatest_number = refl
+
+a_number_below : number_between 1 64 (codes "0") ≡ None
+a_number_below = refl
+
+a_number_above : number_between 1 64 (codes "65") ≡ None
+a_number_above = refl
+
+a_number_without_digits : number_between 0 64 [] ≡ None
+a_number_without_digits = refl
+
+a_number_with_a_letter : number_between 0 64 (codes "1x") ≡ None
+a_number_with_a_letter = refl

@@ -1,6 +1,6 @@
 //! What a command line asks for.
 
-ghost use Rattle.std.specs.Prelude.{◌≡◌, option_map};
+ghost use Rattle.std.specs.Prelude.{◌≡◌, ◌≤◌, IfSome, option_map};
 ghost use Rattle.gateway_command.specs.Command as spec;
 
 use decimal_digits::{are_digits, number_of};
@@ -42,8 +42,26 @@ pub enum Asked<'a> {
         /// Whether it ends at once, and doesn't await the market's answers for a while.
         at_once: bool,
     },
+    /// The messages of the day that a journal's file keeps.
+    Export {
+        /// The journal's file.
+        journal: &'a str,
+        /// The form, as it was said.
+        format: Option<&'a str>,
+    },
     /// The demonstration.
     Demo,
+    /// The closed world of a seed.
+    World {
+        /// The seed, as it was said.
+        seed: &'a str,
+        /// How many steps are drawn, as it was said.
+        steps: &'a str,
+        /// How many clients there are, as it was said.
+        clients: Option<&'a str>,
+        /// How many ports there are, as it was said.
+        ports: Option<&'a str>,
+    },
 }
 
 /// How many links of each client are to be served: digits, for 1 to 1,000, and 1 where nothing is said. `None` of
@@ -66,6 +84,31 @@ fn links_in(digits: &[u8]) -> Option<u16>
     }
     match number_of(digits) {
         Some(number) if 1 <= number && number <= 1_000 => Some(number as u16),
+        _ => None,
+    }
+}
+
+/// A number that was said: digits, one at least, for one from the least to the most. `None` of anything else.
+pub fn number_between(digits: &str, least: u64, most: u64) -> Option<u64>
+    ensures number { result ≡ spec.number_between least most digits.now }
+    ensures within { IfSome result (λ number. (least ≤ number) × (number ≤ most)) }
+{
+    number_in(digits.as_bytes(), least, most)
+}
+
+/// The same of the bytes.
+fn number_in(digits: &[u8], least: u64, most: u64) -> Option<u64>
+    ensures number { result ≡ spec.number_between least most digits.now }
+    ensures within { IfSome result (λ number. (least ≤ number) × (number ≤ most)) }
+{
+    if digits.is_empty() {
+        return None;
+    }
+    if !are_digits(digits) {
+        return None;
+    }
+    match number_of(digits) {
+        Some(number) if least <= number && number <= most => Some(number),
         _ => None,
     }
 }

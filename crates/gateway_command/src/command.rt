@@ -1,14 +1,16 @@
 //! The command line of `gateway`, as `clap` reads it.
 
 ghost use Rattle.std.specs.Prelude.{◌≡◌, codes, false, IfOk, map, option_map};
-ghost use Rattle.clap.specs.Words.{FailsBy, app_of, first_of, found_of, rows_of, rule_of, subcommand_rows_of};
-ghost use Rattle.clap.specs.Words.{with_rule};
+ghost use Rattle.clap.specs.Words.{FailsBy, app_of, first_of, found_of, kind_of, rows_of, rule_of};
+ghost use Rattle.clap.specs.Words.{subcommand_rows_of, with_rule};
 ghost use Rattle.clap.specs.declared.builder.command.Command.{out-Command as fields_of};
 ghost use Rattle.gateway_command.specs.Command as spec;
 ghost use Rattle.gateway_command.specs.Seen.{asked_seen};
 
 use crate::asking::Asked;
-use crate::help::{AUDIT, DEMO, END, JOURNAL, RUN, SERVE};
+use crate::help::{AUDIT, DEMO, END, EXPORT, JOURNAL, RUN, SERVE, WORLD};
+use crate::version::version;
+use clap::error::ErrorKind;
 use clap::{Arg, ArgAction, ArgMatches, Command, Error};
 use std::alloc::{AllocError, Global};
 use std::convert::AsStr;
@@ -23,6 +25,13 @@ pub fn asked<'a, S: AsStr>(alloc: Global, words: &'a [S]) -> Result<Option<Asked
 {
     let matches = matches_of(alloc, words)?;
     Ok(asked_in(&matches))
+}
+
+/// Whether a command line that is answered so asks for the version: the answer's text is that, to be printed.
+pub fn is_version(error: &Error) -> bool
+    ensures { result ≡ spec.is_version (kind_of error.now) }
+{
+    matches!(error.kind(), ErrorKind::DisplayVersion)
 }
 
 /// What `clap` finds in the words.
@@ -55,6 +64,8 @@ fn asked_by<'a>(name: &str, found: &ArgMatches<'a>) -> Option<Asked<'a>>
         "serve" => serve_asked(found),
         "end" => end_asked(found),
         "demo" => Some(Asked::Demo),
+        "export" => export_asked(found),
+        "world" => world_asked(found),
         _ => None,
     }
 }
@@ -159,6 +170,44 @@ fn end_asked<'a>(found: &ArgMatches<'a>) -> Option<Asked<'a>>
         Some(settings) => Some(Asked::End {
             settings,
             at_once: is_said(found, "now"),
+        }),
+        None => None,
+    }
+}
+
+/// What `export` asks for.
+fn export_asked<'a>(found: &ArgMatches<'a>) -> Option<Asked<'a>>
+    ensures { option_map asked_seen result ≡ spec.export_asked (rows_of (found_of found.now)) }
+{
+    match value_of(found, "journal") {
+        Some(journal) => Some(Asked::Export {
+            journal,
+            format: value_of(found, "format"),
+        }),
+        None => None,
+    }
+}
+
+/// What `world` asks for.
+fn world_asked<'a>(found: &ArgMatches<'a>) -> Option<Asked<'a>>
+    ensures { option_map asked_seen result ≡ spec.world_asked (rows_of (found_of found.now)) }
+{
+    match value_of(found, "seed") {
+        Some(seed) => steps_asked(found, seed),
+        None => None,
+    }
+}
+
+/// The same with this seed.
+fn steps_asked<'a>(found: &ArgMatches<'a>, seed: &'a str) -> Option<Asked<'a>>
+    ensures { option_map asked_seen result ≡ spec.steps_asked seed.now (rows_of (found_of found.now)) }
+{
+    match value_of(found, "steps") {
+        Some(steps) => Some(Asked::World {
+            seed,
+            steps,
+            clients: value_of(found, "clients"),
+            ports: value_of(found, "ports"),
         }),
         None => None,
     }
@@ -324,6 +373,25 @@ fn end<'a>(alloc: Global) -> Result<Command<'a>, AllocError>
     with_option(with_settings, now)
 }
 
+/// `export --journal FILE [--format NAME]`.
+fn export<'a>(alloc: Global) -> Result<Command<'a>, AllocError>
+    ensures app { IfOk result (λ command. app_of command ≡ spec.exports) }
+    ensures own { IfOk result (λ command. (fields_of command).has_globals ≡ false) }
+{
+    let alone = Command::new(alloc, "export")
+        .about("Prints the messages of a day's orders, without users and passwords")
+        .after_help(EXPORT);
+    let journal = required(alloc, "journal", "FILE", "The journal of the day");
+    let with_journal = with_option(alone, journal)?;
+    let format = option(
+        alloc,
+        "format",
+        "NAME",
+        "csv, json or messages; csv where nothing is said",
+    );
+    with_option(with_journal, format)
+}
+
 /// `demo`.
 fn demo<'a>(alloc: Global) -> Command<'a>
     ensures app { app_of result ≡ spec.demo }
@@ -332,6 +400,36 @@ fn demo<'a>(alloc: Global) -> Command<'a>
     Command::new(alloc, "demo")
         .about("Shows a gateway between two clients and a simulated market, on loopback")
         .after_help(DEMO)
+}
+
+/// `world --seed N --steps K [--clients C] [--ports P]`.
+fn world<'a>(alloc: Global) -> Result<Command<'a>, AllocError>
+    ensures app { IfOk result (λ command. app_of command ≡ spec.world) }
+    ensures own { IfOk result (λ command. (fields_of command).has_globals ≡ false) }
+{
+    let alone = Command::new(alloc, "world")
+        .about(
+            "Plays a closed world of clients, gateway and markets by a seed, and judges what came of it",
+        )
+        .after_help(WORLD);
+    let seed = required(alloc, "seed", "N", "The seed");
+    let with_seed = with_option(alone, seed)?;
+    let steps = required(alloc, "steps", "K", "How many steps are drawn: 1 to 10000");
+    let with_steps = with_option(with_seed, steps)?;
+    let clients = option(
+        alloc,
+        "clients",
+        "C",
+        "How many clients there are: 1 to 64, or 4",
+    );
+    let with_clients = with_option(with_steps, clients)?;
+    let ports = option(
+        alloc,
+        "ports",
+        "P",
+        "How many ports there are: 1 to 16, or 2",
+    );
+    with_option(with_clients, ports)
 }
 
 /// A command with a subcommand more.
@@ -408,12 +506,39 @@ fn with_journal<'a>(alloc: Global, command: Command<'a>) -> Result<Command<'a>, 
     }
 }
 
+/// A command with `export` more.
+fn with_export<'a>(alloc: Global, command: Command<'a>) -> Result<Command<'a>, AllocError>
+    ensures { IfOk result (λ wider. app_of wider ≡ spec.with_command (app_of command.entry) spec.exports) }
+{
+    match export(alloc) {
+        Ok(export) => with_command(command, export),
+        Err(error) => {
+            drop(command);
+            Err(error)
+        }
+    }
+}
+
+/// A command with `world` more.
+fn with_world<'a>(alloc: Global, command: Command<'a>) -> Result<Command<'a>, AllocError>
+    ensures { IfOk result (λ wider. app_of wider ≡ spec.with_command (app_of command.entry) spec.world) }
+{
+    match world(alloc) {
+        Ok(world) => with_command(command, world),
+        Err(error) => {
+            drop(command);
+            Err(error)
+        }
+    }
+}
+
 /// `gateway` with its subcommands.
 fn gateway<'a>(alloc: Global) -> Result<Command<'a>, AllocError>
     ensures { IfOk result (λ command. app_of command ≡ spec.gateway) }
 {
     let alone = Command::new(alloc, "gateway")
         .about("The order gateway: FIX 4.4 clients, OUCH 4.2 market ports")
+        .version(version())
         .subcommand_required(true)
         .arg_required_else_help(true);
     let with_run = with_run(alloc, alone)?;
@@ -421,5 +546,7 @@ fn gateway<'a>(alloc: Global) -> Result<Command<'a>, AllocError>
     let with_end = with_end(alloc, with_serve)?;
     let with_demo = with_command(with_end, demo(alloc))?;
     let with_audit = with_audit(alloc, with_demo)?;
-    with_journal(alloc, with_audit)
+    let with_export = with_export(alloc, with_audit)?;
+    let with_journal = with_journal(alloc, with_export)?;
+    with_world(alloc, with_journal)
 }

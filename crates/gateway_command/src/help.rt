@@ -59,10 +59,11 @@ The settings say where each client is listened for, and where each port of the m
 
 It ends when each client has connected and gone so often, and then prints the audit of its day, as gateway audit
 does. A port is connected again a second after its link is lost. Each link that comes and goes is told on standard
-error. With --journal FILE the day is written to a new file at its end, for gateway audit --journal. The status is 0
-where all orders agree, 1 where one doesn't, where memory runs out, a thread can't be had or the journal can't be
-written, 2 for settings that are refused, which the first key that is missing or wrong names, or a journal that is there
-already.";
+error. With --journal FILE each step is in that file, synced, before anybody is told of it: a gateway that was killed
+goes on with its day when it is started again with the same file, and gateway audit --journal reads it once it is over.
+The status is 0 where all orders agree, 1 where one doesn't, where memory runs out, a thread can't be had or the journal
+can't be written, 2 for settings that are refused, which the first key that is missing or wrong names, or a journal that
+is in use, over or damaged.";
 
 /// Of `gateway serve`.
 pub(crate) const SERVE: &str = "\
@@ -83,7 +84,7 @@ Each address is listened at before a port is connected. At the end no further li
 awaited for a while, the link of each client and then of each port is closed once what lay there for it is written, and
 the audit of the day is printed. Orders that are open at the market, or that it hasn't answered, are named on standard
 error. The status is 0 where all orders agree, 1 as gateway run has it, 2 for settings that are refused, an address that
-can't be listened at, or a journal that is there already: then nothing was connected.";
+can't be listened at, or a journal that is in use, over or damaged: then nothing was connected.";
 
 /// Of `gateway end`.
 pub(crate) const END: &str = "\
@@ -93,6 +94,21 @@ The gateway is told over the address of [control] in its settings, and with thei
 
 The status is 0 once it has ended, 1 where it hasn't within 60 seconds, or refuses, 2 where nobody answers, or the
 settings are refused or name no address.";
+
+/// Of `gateway export`.
+pub(crate) const EXPORT: &str = "\
+A journal has the passwords of ports, and isn't handed on. Its export is: a row for each new order, request, report and
+reject, and for each message that the market was asked or said, in the order in which they came and were told.
+
+  $ gateway export --journal monday.day --format messages
+  20261126-13:30:02.310 C1 < 35=D|11=A1|54=1|55=INTC|38=300|40=2|44=23.45
+  20261126-13:30:02.310 C1 > 35=8|37=1|11=A1|17=1|150=A|39=A|55=INTC|54=1|38=300|44=23.45|151=300|14=0|6=0
+  20261126-13:30:02.310 P1 > ouch=O|token=G0000000000001|shares=300|price=234500
+  ..
+
+csv has a line with the names of its columns first; json has an object a line. Of a day that goes on all that was
+written of it is there, with the day goes on on standard error. The status is 0 where all was written, 1 where memory
+runs out or a write fails, 2 for a journal that is damaged, a file that can't be read, or another format.";
 
 /// Of `gateway demo`.
 pub(crate) const DEMO: &str = "\
@@ -105,3 +121,15 @@ Two clients send three orders each, a simulated market takes and fills them, all
 
 The status is 0 where all orders agree, 1 where one doesn't, and where a client waits ten seconds for an answer, with
 demo: not finished on standard error.";
+
+/// Of `gateway world`.
+pub(crate) const WORLD: &str = "\
+Clients that a seed draws send orders, replaces and cancels; a market for each port answers by choices that it draws;
+links are lost with what is on their way, and come again; all in memory. In the end all is delivered, and each order
+that was accepted is judged: what its client read of it, what its market said, and what its market's book has:
+
+  $ gateway world --seed 7 --steps 300
+  steps 300 events 168 orders 22 trades 8 lost 14 faults 0 agree 22
+
+The same seed draws the same steps. The status is 0 where no message of the market was a fault and all orders agree, 1
+where not, and where memory runs out, 2 for a number that isn't one, or is out of its range.";

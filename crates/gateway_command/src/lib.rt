@@ -4,6 +4,8 @@
 mod asking;
 mod command;
 mod help;
+mod version;
 
-pub use asking::{Asked, links_of};
-pub use command::asked;
+pub use asking::{Asked, links_of, number_between};
+pub use clap::Error;
+pub use command::{asked, is_version};

@@ -2,9 +2,11 @@
 
 use crate::answers::Answers;
 use crate::control::DayControl;
+use crate::served::Served;
 use crate::timed::{Timed, look};
 use control_guard::Rules;
 use http_server::{Config, Connection, serve};
+use status_page::DayNames;
 use std::alloc::{AllocError, Global};
 use std::hash::RandomState;
 use std::net::{TcpListener, TcpStream};
@@ -42,13 +44,15 @@ impl Endpoint {
     }
 }
 
-/// Serves the endpoint at this listener until the day is over, by these rules, in threads of its own. Where a thread
-/// can't be had, those are enough that could; `None` where none could, or the listener is of no use.
+/// Serves the endpoint at this listener until the day is over, by these rules, in threads of its own, and shows the day
+/// by these names. Where a thread can't be had, those are enough that could; `None` where none could, or the listener
+/// is of no use.
 pub fn serve_endpoint<R>(
     rt: &R,
     alloc: Global,
     listener: TcpListener,
     rules: Rules,
+    names: DayNames,
     control: &Arc<DayControl>,
 ) -> Result<Option<Endpoint>, AllocError>
 where
@@ -57,15 +61,15 @@ where
     if is_timed(&listener).is_err() {
         return Ok(None);
     }
-    let rules = Arc::new(alloc, rules)?;
+    let served = Arc::new(alloc, Served { rules, names })?;
     let mut threads = Vec::with_capacity(alloc, THREADS as usize)?;
     for _ in 0..THREADS {
         let Ok(listener) = listener.try_clone() else {
             break;
         };
-        let rules = Arc::try_clone(&rules)?;
+        let served = Arc::try_clone(&served)?;
         let control = Arc::try_clone(control)?;
-        match thread_of(rt, alloc, listener, rules, control) {
+        match thread_of(rt, alloc, listener, served, control) {
             Some(thread) => threads.push(thread)?,
             None => break,
         }
@@ -81,7 +85,7 @@ fn thread_of<R>(
     rt: &R,
     alloc: Global,
     listener: TcpListener,
-    rules: Arc<Rules>,
+    served: Arc<Served>,
     control: Arc<DayControl>,
 ) -> Option<JoinHandle<()>>
 where
@@ -90,7 +94,7 @@ where
     let own = *rt;
     thread::spawn(
         rt,
-        move || serve_all(&own, alloc, &listener, &rules, &control),
+        move || serve_all(&own, alloc, &listener, &served, &control),
     )
     .ok()
 }
@@ -102,11 +106,11 @@ fn is_timed(listener: &TcpListener) -> io::Result<()> {
 }
 
 /// Serves connections one after the other until the day is over. What fails is over with its connection.
-fn serve_all<R: Clock + RandomSource>(
+fn serve_all<R: Wait + Clock + RandomSource>(
     rt: &R,
     alloc: Global,
     listener: &TcpListener,
-    rules: &Rules,
+    served: &Served,
     control: &DayControl,
 ) {
     let Ok(keys) = RandomState::new(rt) else {
@@ -119,7 +123,7 @@ fn serve_all<R: Clock + RandomSource>(
         match listener.accept() {
             Ok((stream, _)) => {
                 if let Ok(keys) = keys.clone() {
-                    let _ = serve_one(rt, alloc, keys, &stream, rules, control);
+                    let _ = serve_one(rt, alloc, keys, &stream, served, control);
                 }
             }
             Err(_) => {}
@@ -128,12 +132,12 @@ fn serve_all<R: Clock + RandomSource>(
 }
 
 /// Serves one connection.
-fn serve_one<R: Clock>(
+fn serve_one<R: Wait + Clock>(
     rt: &R,
     alloc: Global,
     keys: RandomState,
     stream: &TcpStream,
-    rules: &Rules,
+    served: &Served,
     control: &DayControl,
 ) -> io::Result<()> {
     stream.set_nodelay(true)?;
@@ -147,6 +151,6 @@ fn serve_one<R: Clock>(
         ..Config::default()
     };
     let mut connection = Connection::new(alloc, keys, config);
-    let mut answers = Answers::new(alloc, rules, control);
+    let mut answers = Answers::new(rt, alloc, served, control);
     serve(&mut connection, &mut answers, &mut reader, &mut writer)
 }

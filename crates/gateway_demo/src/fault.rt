@@ -43,7 +43,8 @@ impl From<io::Error> for DemoFault {
 impl From<RunFault> for DemoFault {
     fn from(fault: RunFault) -> DemoFault {
         match fault {
-            RunFault::NoMemory => DemoFault::NoMemory,
+            // A demonstration has no journal.
+            RunFault::NoMemory | RunFault::OtherDay(_) => DemoFault::NoMemory,
             RunFault::NoThread => DemoFault::NoThread,
         }
     }

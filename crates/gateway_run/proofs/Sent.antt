@@ -8,6 +8,7 @@ use Rattle.std.proofs.Crossing.{crosses}
 use Rattle.std.specs.declared.hash.BuildHasher as BuildHasher
 use Rattle.std.specs.declared.hash.Hasher as Hasher
 use Rattle.desk_gates.proofs.desk.Sent.{shared_sync}
+use Rattle.status_board.proofs.Sent.{board_sync}
 use Rattle.desk_gates.specs.desk.declared.DeskName as DeskName
 use Rattle.desk_gates.specs.contracts.bell.BellClock as BellClock
 use Rattle.gateway_run.specs.contracts.counted.CountedLinks as CountedLinks
@@ -15,8 +16,25 @@ use Rattle.gateway_run.specs.contracts.run_opener.RunOpener as RunOpener
 use Rattle.gateway_run.specs.contracts.clock.RunClock as RunClock
 use Rattle.gateway_run.specs.contracts.clock.Watch as Watch
 use Rattle.gateway_run.specs.contracts.port_faults.PortLinks as PortLinks
+use Rattle.gateway_run.specs.contracts.memory_watch.MemoryWatch as MemoryWatch
+use Rattle.gateway_run.specs.contracts.run_gate.RunGate as RunGate
 use Rattle.gateway_run.specs.contracts.telling.Teller as Teller
 use Rattle.gateway_run.specs.contracts.telling_gate.TellingGate as TellingGate
+
+module _ (a : NamedLft) (R : RattleType) (r : IsSync R) where
+  pub teller_send : IsSend (Teller.the_row a R)
+  teller_send = declared_send (Teller.the_type a R)
+      (search (r, sendable) depth 40, (search (sendable, crosses) depth 40, tt))
+
+  pub telling_send : (G : RattleType) → IsSend G → IsSend (TellingGate.the_row a G R)
+  telling_send G g = declared_send (TellingGate.the_type a G R) (
+    search (g, sendable) depth 40,
+    (search (sendable, crosses) depth 40, (search (teller_send, sendable) depth 40, tt)),
+  )
+
+  pub memory_watch_send : IsSend (MemoryWatch.the_row a R)
+  memory_watch_send = declared_send (MemoryWatch.the_type a R)
+      (search (teller_send, sendable) depth 40, (search (sendable, crosses) depth 40, tt))
 
 module _ (a : NamedLft) (K R : RattleType) (k : DeskName.Ghosts K.Denot) (r : IsSync R) where
   pub bell_send : (S T : RattleType) (g : BuildHasher.Ghosts S.Denot T.Denot) (h : Hasher.Ghosts T.Denot) → IsSend S
@@ -48,10 +66,34 @@ module _ (a : NamedLft) (K R : RattleType) (k : DeskName.Ghosts K.Denot) (r : Is
   watch_send = declared_send (Watch.the_type a K R k) (
     search (r, sendable),
     (
-      search (shared_sync, sendable) depth 40,
+      search (sendable, crosses) depth 40,
+      (
+        search (shared_sync, sendable) depth 40,
+        (
+          search (sendable, crosses) depth 40,
+          (
+            search (sendable, crosses) depth 40,
+            (
+              search (board_sync, sendable) depth 40,
+              (search sendable, (search (memory_watch_send a R r, sendable) depth 40, (search sendable, tt))),
+            ),
+          ),
+        ),
+      ),
+    ),
+  )
+
+  pub run_gate_send : (G : RattleType) → IsSend G → IsSend (RunGate.the_row a G K R k)
+  run_gate_send G g = declared_send (RunGate.the_type a G K R k) (
+    search (g, sendable) depth 40,
+    (
+      search (r, sendable) depth 40,
       (
         search (sendable, crosses) depth 40,
-        (search (sendable, crosses) depth 40, (search sendable, tt)),
+        (
+          search (shared_sync, sendable) depth 40,
+          (search (teller_send, r, sendable) depth 40, (search sendable, tt)),
+        ),
       ),
     ),
   )
@@ -59,17 +101,6 @@ module _ (a : NamedLft) (K R : RattleType) (k : DeskName.Ghosts K.Denot) (r : Is
   pub run_clock_send : IsSend (RunClock.the_row a K R k)
   run_clock_send = declared_send (RunClock.the_type a K R k)
       (search (r, sendable) depth 40, (search (watch_send, sendable) depth 40, tt))
-
-module _ (a : NamedLft) (R : RattleType) (r : IsSync R) where
-  pub teller_send : IsSend (Teller.the_row a R)
-  teller_send = declared_send (Teller.the_type a R)
-      (search (r, sendable) depth 40, (search (sendable, crosses) depth 40, tt))
-
-  pub telling_send : (G : RattleType) → IsSend G → IsSend (TellingGate.the_row a G R)
-  telling_send G g = declared_send (TellingGate.the_type a G R) (
-    search (g, sendable) depth 40,
-    (search (sendable, crosses) depth 40, (search (teller_send, sendable) depth 40, tt)),
-  )
 
 pub counted_send : (a : NamedLft) (A : RattleType) → IsSend A → IsSend (CountedLinks.the_row a A)
 counted_send a A s = declared_send (CountedLinks.the_type a A)

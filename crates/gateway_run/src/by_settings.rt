@@ -3,10 +3,12 @@
 use crate::day::Day;
 use crate::ends::{LinkRules, RunPlan};
 use crate::fault::RunFault;
-use crate::running::run;
+use crate::resuming::DayJournal;
+use crate::running::run_shown;
 use crate::telling::{Teller, Telling, Whose};
 use link_sockets::{Acceptor, Connector};
 use settings_file::SettingsFile;
+use status_board::StatusBoard;
 use std::alloc::{AllocError, Global};
 use std::hash::RandomState;
 use std::net::{Net, TcpListener, TcpStream};
@@ -26,6 +28,7 @@ pub fn run_settings<R>(
     hasher: RandomState,
     file: SettingsFile,
     links: u32,
+    journal: Option<DayJournal>,
 ) -> Result<Day, RunFault>
 where
     R: Threads + Wait + Sync + Clock + Eprint + Net<Listener = TcpListener, Stream = TcpStream>,
@@ -37,7 +40,8 @@ where
     } = file;
     let is_over = AtomicBool::new(false);
     let plan = plan_of(rt, alloc, &listens, &addresses, links, &is_over)?;
-    run(rt, alloc, hasher, settings, plan, &is_over)
+    let board = StatusBoard::new();
+    run_shown(rt, alloc, hasher, settings, journal, plan, &is_over, &board)
 }
 
 /// The openers of a gateway: of its clients' links, and of its ports'.

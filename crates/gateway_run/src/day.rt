@@ -1,15 +1,15 @@
 //! A day that is over, and its audit as it is printed.
 
-ghost use Rattle.std.specs.Prelude.{◌≡◌, ◌≤◌};
+ghost use Rattle.std.specs.Prelude.{◌≡◌, ◌≤◌, true, IfOk};
 ghost use Rattle.audit_lines.specs.gate_audit.gate_journal.Kept.{turns};
-ghost use Rattle.journal_file.specs.Written.{IsFileOfTurns};
-ghost use Rattle.gateway_run.specs.Told.{AuditIsTold, AuditIsToldOf};
+ghost use Rattle.gateway_run.specs.Told.{AuditIsTold, AuditIsToldOf, IsFileSaying};
 
 use crate::fault::RunFault;
 use audit_lines::{History, ReadingFault, Settings, audit, write_audit};
 use gate_serving::LinkFault;
-use journal_file::write_day;
-use std::alloc::Global;
+use journal_file::{DayFile, Ending, FileFault, PageFault, read_file};
+use same_days::first_other;
+use std::alloc::{AllocError, Global};
 use std::io::Write;
 use std::marker::Model;
 
@@ -19,6 +19,7 @@ pub struct Day {
     history: History,
     settings: Settings,
     fault: Option<LinkFault>,
+    is_lost: bool,
 }
 
 impl Model for Day {
@@ -39,7 +40,12 @@ impl Day {
     ghost use Rattle.audit_lines.specs.gate_audit.gate_journal.Kept.{turns};
 
     /// A day of this history by these settings, with the first fault of a link. Takes no memory.
-    pub(crate) fn new(history: History, settings: Settings, fault: Option<LinkFault>) -> Day
+    pub(crate) fn new(
+        history: History,
+        settings: Settings,
+        fault: Option<LinkFault>,
+        is_lost: bool,
+    ) -> Day
         requires { Holds settings (turns history) }
         ensures { result ≡ record { settings = settings; kept = history; fault = fault } }
     {
@@ -47,6 +53,7 @@ impl Day {
             history,
             settings,
             fault,
+            is_lost,
         }
     }
 
@@ -63,6 +70,11 @@ impl Day {
         ensures { result.now ≡ self.now.settings }
     {
         &self.settings
+    }
+
+    /// Whether its journal's file failed: the journal may lack what nobody was told, and its end.
+    pub fn is_journal_lost(&self) -> bool {
+        self.is_lost
     }
 
     /// The first fault of a link: of the clients' in their order, then of the ports'. `None` where no link had one.
@@ -96,44 +108,65 @@ pub fn audit_day<W: Write, F: Write>(alloc: Global, day: &Day, output: &mut W, f
     }
 }
 
-/// Writes the history of a day to `journal`, as a day's file (`journal_file`).
-///
-/// Answers the status that a program ends with which does so: 0 where it was written, else 1: where a write fails, with
-/// `gateway: journal: read or write failed` on `faults`. It needs no memory of its own.
-pub fn keep_day<J: Write, F: Write>(day: &Day, journal: &mut J, faults: &mut F) -> u8
-    ensures status { result ≤ 1 }
-    ensures kept { result ≡ 0
-        → IsFileOfTurns (turns day.now.kept) (J.contents journal.old) (J.contents journal.new) }
+/// Whether a journal's file, as it was read again, has just this day, and its end.
+pub fn has_day(alloc: Global, day: &Day, file: &[u8]) -> Result<bool, AllocError>
+    ensures { IfOk result (λ has. has ≡ true → IsFileSaying (turns day.now.kept) file.now) }
 {
-    match write_day(&day.history, journal) {
-        Ok(()) => 0,
-        Err(fault) => {
-            let _ = writeln!(faults, "gateway: journal: {fault}");
-            1
-        }
+    match read_file(alloc, file) {
+        Ok(DayFile { day: read, ending }) => match ending {
+            Ending::Over => Ok(is_same(&read, &day.history)),
+            Ending::GoesOn | Ending::Torn(_) => Ok(false),
+        },
+        Err((_, FileFault::Page(PageFault::NoMemory))) => Err(AllocError),
+        Err(_) => Ok(false),
     }
 }
 
-/// Ends a day that is kept: writes its journal, and then its audit to `output`, be the journal written or not.
+/// Whether two histories have the same events with the same batches.
+fn is_same(read: &History, day: &History) -> bool
+    ensures { result ≡ true → turns read.now ≡ turns day.now }
+{
+    match first_other(read, day) {
+        None => true,
+        Some(_) => false,
+    }
+}
+
+/// Ends a day that was written ahead: writes its audit to `output`, and looks whether the journal's file, as it was
+/// read again, has the day.
 ///
-/// Answers the status that a program ends with which does so: 0 where the journal was written and both accounts of each
-/// order agree; else 1, as `keep_day` and `audit_day` have it.
-pub fn end_day<J: Write, W: Write, F: Write>(
+/// Answers the status that a program ends with which does so: 0 where it has and both accounts of each order agree; else
+/// 1, as `audit_day` has it, or with `gateway: journal: it doesn't have the day` on `faults`.
+pub fn end_day<W: Write, F: Write>(
     alloc: Global,
     day: &Day,
-    journal: &mut J,
+    file: &[u8],
     output: &mut W,
     faults: &mut F,
 ) -> u8
     ensures status { result ≤ 1 }
-    ensures kept { result ≡ 0
-        → IsFileOfTurns (turns day.now.kept) (J.contents journal.old) (J.contents journal.new) }
+    ensures kept { result ≡ 0 → IsFileSaying (turns day.now.kept) file.now }
     ensures audited { result ≡ 0
         → AuditIsToldOf day.now.settings (turns day.now.kept) (W.contents output.old) (W.contents output.new) }
 {
-    let kept = keep_day(day, journal, faults);
     let audited = audit_day(alloc, day, output, faults);
-    kept.max(audited)
+    let kept = kept_status(alloc, day, file, faults);
+    audited.max(kept)
+}
+
+/// 0 where the journal's file has the day; else 1, and why.
+fn kept_status<F: Write>(alloc: Global, day: &Day, file: &[u8], faults: &mut F) -> u8
+    ensures status { result ≤ 1 }
+    ensures kept { result ≡ 0 → IsFileSaying (turns day.now.kept) file.now }
+{
+    match has_day(alloc, day, file) {
+        Ok(true) => 0,
+        Ok(false) => {
+            let _ = writeln!(faults, "gateway: journal: it doesn't have the day");
+            1
+        }
+        Err(_) => tell(RunFault::NoMemory, faults),
+    }
 }
 
 /// Tells why a gateway could not run to its end, and answers its program's status: 1.
@@ -143,6 +176,10 @@ pub fn tell<F: Write>(fault: RunFault, faults: &mut F) -> u8
     let _ = match fault {
         RunFault::NoMemory => writeln!(faults, "out of memory"),
         RunFault::NoThread => writeln!(faults, "gateway: no thread"),
+        RunFault::OtherDay(place) => writeln!(
+            faults,
+            "gateway: journal: event {place} isn't what these settings give"
+        ),
     };
     1
 }

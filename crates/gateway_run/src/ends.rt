@@ -4,8 +4,9 @@ ghost use Rattle.std.specs.Prelude.{◌≡◌, All, true};
 ghost use Rattle.gateway_run.specs.Own.{source_of_peer};
 
 use crate::counted::CountedLinks;
-use crate::lines::{RunLine, line_of, teller_of};
+use crate::lines::{RunLine, line_of, login_teller_of, teller_of};
 use crate::port_faults::PortLinks;
+use crate::run_gate::RunGate;
 use crate::run_opener::RunOpener;
 use crate::telling_gate::TellingGate;
 use desk_gates::{DeskName, Inlet, InletGate, OutletEnd, OutletPen, Prompt, Shared};
@@ -41,7 +42,7 @@ pub(crate) struct Ends<'p, 'a, W: Prompt + Drop, G: OutletEnd + Drop, A, C, K: D
     alloc: Global,
     rules: LinkRules,
     pub(crate) lines: Vec<RunLine<'p, 'a, W, G, A, C, K, R>>,
-    ghost puts_own: { All (λ l. l.reader.gate.gate.inlet.source ≡ source_of_peer l.peer) lines.items },
+    ghost puts_own: { All (λ l. l.reader.gate.gate.gate.inlet.source ≡ source_of_peer l.peer) lines.items },
     ghost takes_own: { All (λ l. G.told l.writer.pen.now.first.value ≡ l.peer) lines.items },
 }
 
@@ -79,6 +80,8 @@ impl<
             let at = inlet.position();
             let teller = teller_of(rt, self.rules.tells_frames, &peer);
             let own = InletGate::new(shared, pens, inlet);
+            let who = login_teller_of(rt, self.rules.tells_frames, &peer);
+            let own = RunGate::new(rt, self.alloc, shared, own, who);
             let gate = TellingGate::new(self.alloc, own, teller);
             let line = line_of(rt, shared, peer, opener, gate, at, pen);
             return self.keep(line);
@@ -88,7 +91,7 @@ impl<
 
     /// Adds a line that is over its own ends.
     fn keep(&mut self, line: RunLine<'p, 'a, W, G, A, C, K, R>) -> Result<(), AllocError>
-        requires puts_own { line.reader.gate.gate.inlet.source ≡ source_of_peer line.peer }
+        requires puts_own { line.reader.gate.gate.gate.inlet.source ≡ source_of_peer line.peer }
         requires takes_own { G.told line.writer.pen.now.first.value ≡ line.peer }
     {
         self.lines.push(line)?;

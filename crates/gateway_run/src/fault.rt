@@ -10,6 +10,9 @@ pub enum RunFault {
     NoMemory,
     /// A thread could not be had.
     NoThread,
+    /// The batch of the event at this place of the journal, from 0, isn't the one that these settings, or this program,
+    /// give.
+    OtherDay(u64),
 }
 
 impl From<AllocError> for RunFault {

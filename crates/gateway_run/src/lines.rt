@@ -6,6 +6,7 @@ ghost use Rattle.gate_events.specs.declared.source.Source.TheVariants as sources
 use crate::clock::RunClock;
 use crate::counted::{ClientCounts, CountedLinks};
 use crate::port_faults::PortLinks;
+use crate::run_gate::RunGate;
 use crate::run_opener::RunOpener;
 use crate::telling::{Teller, Whose};
 use crate::telling_gate::TellingGate;
@@ -15,6 +16,7 @@ use desk_gates::{
 };
 use gate_events::{Recipient, Source};
 use gate_serving::{Line, LinkFault, PenWorker, Ticks, Worker};
+use status_board::StatusBoard;
 use std::alloc::{AllocError, Global};
 use std::hash::RandomState;
 use std::sync::Wait;
@@ -32,7 +34,7 @@ fn longest_sleep() -> Duration {
 /// The gate of a reader, or of the ticker, over an inlet.
 pub(crate) type ReadingGate<'p, 'a, W, G, K, R> = TellingGate<
     'a,
-    InletGate<'p, 'a, W, G, K, RandomState>,
+    RunGate<'a, InletGate<'p, 'a, W, G, K, RandomState>, K, R>,
     R,
 >;
 
@@ -72,7 +74,7 @@ pub(crate) fn line_of<'p, 'a, W: Prompt + Drop, G: OutletEnd + Drop, A, C, K, R>
 ) -> RunLine<'p, 'a, W, G, A, C, K, R>
 where
     K: DeskName,
-    R: Wait + Clock,
+    R: Wait + Clock + Eprint,
     ensures peer { result.peer ≡ peer }
     ensures gate { result.reader.gate ≡ gate.entry }
     ensures pen { G.told result.writer.pen.now.first.value ≡ pen.now.to }
@@ -91,7 +93,8 @@ where
     }
 }
 
-/// Ticks for so many clients and ports through the clock's inlet, until `is_over` is set. None through another's.
+/// Ticks for so many clients and ports through the clock's inlet, where they are due, until `is_over` is set, and how
+/// all stand onto this board. None through another's.
 pub(crate) fn ticks_of<'p, 'a, W: Prompt + Drop, G: OutletEnd + Drop, K, R>(
     rt: &'a R,
     alloc: Global,
@@ -99,24 +102,26 @@ pub(crate) fn ticks_of<'p, 'a, W: Prompt + Drop, G: OutletEnd + Drop, K, R>(
     count: Count,
     counts: &'a ClientCounts,
     is_over: &'a AtomicBool,
+    board: &'a StatusBoard,
     inlet: Inlet<K>,
     pens: &'p [OutletPen<W, G>],
 ) -> Option<RunTicks<'p, 'a, W, G, K, R>>
 where
     K: DeskName,
-    R: Wait + Clock,
-    ensures own { IfSome result (λ ticks. ticks.gate.gate.inlet.source ≡ sources.Clock) }
+    R: Wait + Clock + Eprint,
+    ensures own { IfSome result (λ ticks. ticks.gate.gate.gate.inlet.source ≡ sources.Clock) }
 {
     if inlet.source() == Source::Clock {
         let Count { clients, ports } = count;
         let own = InletGate::new(shared, pens, inlet);
+        let own = RunGate::new(rt, alloc, shared, own, None);
         let gate = TellingGate::new(alloc, own, None);
         return Some(Ticks {
             clients,
             ports,
             is_over,
             gate,
-            clock: RunClock::watching(rt, shared, counts, is_over),
+            clock: RunClock::watching(rt, alloc, shared, counts, is_over, board),
         });
     }
     None
@@ -152,7 +157,7 @@ impl<K: DeskName> Left<K> {
     ) -> Result<(), AllocError> {
         for line in lines {
             let Line { fault, reader, .. } = line;
-            self.end_inlet(reader.gate.into_gate())?;
+            self.end_inlet(reader.gate.into_gate().into_gate())?;
             self.fault = self.fault.or(fault);
         }
         Ok(())
@@ -167,7 +172,7 @@ impl<K: DeskName> Left<K> {
             return Ok(());
         };
         let Ticks { gate, .. } = ticks;
-        self.end_inlet(gate.into_gate())
+        self.end_inlet(gate.into_gate().into_gate())
     }
 
     /// Ends the inlet of a gate, and keeps what was put.
@@ -202,9 +207,7 @@ pub(crate) fn pens_of<'a, W: Prompt + Drop, K: DeskName, R: Clock + Eprint>(
     shared: &'a Shared<K, RandomState>,
     outlets: Vec<Outlet<K>>,
     tells_frames: bool,
-) -> Result<Vec<OutletPen<W, WritingGate<'a, K, R>>>, AllocError>
-    requires fresh { All (λ outlet. outlet.took ≡ []) outlets.items }
-{
+) -> Result<Vec<OutletPen<W, WritingGate<'a, K, R>>>, AllocError> {
     let mut pens = Vec::with_capacity(alloc, outlets.len())?;
     for outlet in outlets {
         let teller = teller_of(rt, tells_frames, &outlet.recipient());
@@ -226,4 +229,22 @@ pub(crate) fn teller_of<'a, R: Clock + Eprint>(
         }
         _ => None,
     }
+}
+
+/// Who tells why the sessions of a client's or port's links are refused, where that is told of.
+pub(crate) fn login_teller_of<'a, R: Clock + Eprint>(
+    rt: &'a R,
+    tells_frames: bool,
+    whose: &Recipient,
+) -> Option<Teller<'a, R>> {
+    if !tells_frames {
+        return None;
+    }
+    Some(Teller::new(
+        rt,
+        match whose {
+            Recipient::Client(client) => Whose::Client(usize::from(client.number())),
+            Recipient::Port(port) => Whose::Port(usize::from(port.number())),
+        },
+    ))
 }

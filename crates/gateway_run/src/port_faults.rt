@@ -3,9 +3,10 @@
 ghost use Rattle.std.specs.Prelude.{◌≡◌};
 
 use crate::telling::{Teller, Whose};
-use audit_lines::{PortFault, PortNumber};
+use audit_lines::PortNumber;
 use desk_gates::{DeskName, Shared};
 use gate_serving::{LinkEnd, LinkFault, Opened, Opener};
+use status_board::fault_name;
 use std::hash::RandomState;
 use std::sync::Wait;
 use std::time::Clock;
@@ -52,7 +53,7 @@ impl<'a, C, K: DeskName, R: Wait + Clock + Eprint> PortLinks<'a, C, K, R> {
         if let Some(fault) = self.shared.port_fault(self.rt, number) {
             self.is_told = true;
             let teller = Teller::new(self.rt, Whose::Port(usize::from(number)));
-            teller.tell_port_fault(fault.number(), name_of(fault));
+            teller.tell_port_fault(fault.number(), fault_name(fault));
         }
     }
 }
@@ -81,17 +82,5 @@ impl<'a, C: Opener, K: DeskName, R: Wait + Clock + Eprint> Opener for PortLinks<
     fn ended(&mut self, end: LinkEnd) {
         self.opener.ended(end);
         self.look();
-    }
-}
-
-/// A fault's name, for an operator.
-fn name_of(fault: PortFault) -> &'static str {
-    match fault {
-        PortFault::StrangePacket => "a packet or payload that can't be read",
-        PortFault::UnknownToken => "a token that no order of this port has",
-        PortFault::NotLawful => "a message that its order doesn't allow",
-        PortFault::OutsideProfile => "a message outside the profile",
-        PortFault::SequenceGap => "a login with a number above the next one",
-        PortFault::OtherSession => "a login of another session",
     }
 }

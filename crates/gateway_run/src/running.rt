@@ -10,11 +10,13 @@ use crate::day::Day;
 use crate::ends::{Ends, RunPlan, ends_of};
 use crate::fault::RunFault;
 use crate::lines::{Count, Left, pens_of, ticks_of};
+use crate::resuming::{DayJournal, go_on};
 use audit_lines::Settings;
 use desk_gates::{
     Closed, DeskName, Finished, Inlet, OutletEnd, OutletPen, Parts, Prompt, Shared, open_desk,
 };
 use gate_serving::{Closer, Opener, serve};
+use status_board::StatusBoard;
 use std::alloc::{AllocError, Global};
 use std::hash::RandomState;
 use std::io::Read;
@@ -55,12 +57,36 @@ where
     A::Closer: Closer + Send + Drop,
     C: Opener<Reader = A::Reader, Writer = A::Writer, Closer = A::Closer> + Send + Drop,
 {
+    let board = StatusBoard::new();
+    run_shown(rt, alloc, hasher, settings, None, plan, is_over, &board)
+}
+
+/// The same, with how all stand on this board, once a second, for whoever looks at it. Where there is a journal the day
+/// goes on behind what it has, and all that is stepped is in it, durably, before anybody is told; it ends with the day.
+pub fn run_shown<R, A, C>(
+    rt: &R,
+    alloc: Global,
+    hasher: RandomState,
+    settings: Settings,
+    journal: Option<DayJournal>,
+    plan: RunPlan<A, C>,
+    is_over: &AtomicBool,
+    board: &StatusBoard,
+) -> Result<Day, RunFault>
+where
+    R: Threads + Wait + Sync + Clock + Eprint,
+    A: Opener + Send + Drop,
+    A::Reader: Read + Send + Drop,
+    A::Writer: Prompt + Send + Drop,
+    A::Closer: Closer + Send + Drop,
+    C: Opener<Reader = A::Reader, Writer = A::Writer, Closer = A::Closer> + Send + Drop,
+{
     let count = Count {
         clients: settings.clients().len() as u16,
         ports: settings.ports().len() as u16,
     };
     let parts = Parts::with_hasher(alloc, hasher, settings)?;
-    run_desk::<Brand, R, A, C>(rt, alloc, parts, count, plan, is_over)
+    run_desk::<Brand, R, A, C>(rt, alloc, parts, journal, count, plan, is_over, board)
 }
 
 /// Opens the desk of these parts, serves it and closes it.
@@ -68,9 +94,11 @@ fn run_desk<K, R, A, C>(
     rt: &R,
     alloc: Global,
     parts: Parts<RandomState>,
+    journal: Option<DayJournal>,
     count: Count,
     plan: RunPlan<A, C>,
     is_over: &AtomicBool,
+    board: &StatusBoard,
 ) -> Result<Day, RunFault>
 where
     K: DeskName + Send + Sync,
@@ -83,7 +111,8 @@ where
     requires named { (parts.inlets ≡ K.inlets) × (parts.outlets ≡ K.outlets) }
     requires clock { 0 < length parts.inlets }
 {
-    let (shared, inlets, outlets) = open_desk::<K, RandomState>(alloc, parts)?;
+    let (shared, mut inlets, mut outlets) = open_desk::<K, RandomState>(alloc, parts)?;
+    go_on(rt, alloc, &shared, &mut inlets, &mut outlets, journal)?;
     let counts = ClientCounts::of(plan.clients.len().min(usize::from(count.clients)) as u32);
     let pens = pens_of::<A::Writer, K, R>(rt, alloc, &shared, outlets, plan.rules.tells_frames)?;
     let mut left = serve_desk(
@@ -96,10 +125,16 @@ where
         pens.as_slice(),
         plan,
         is_over,
+        board,
     )?;
     left.end_outlets(pens)?;
     let closed = close_desk(rt, alloc, shared, left.finished)?;
-    Ok(Day::new(closed.history, closed.settings, left.fault))
+    Ok(Day::new(
+        closed.history,
+        closed.settings,
+        left.fault,
+        closed.lost.is_some(),
+    ))
 }
 
 /// Closes a desk whose ends have finished: of each inlet that is handed in the history has just what was put. Where
@@ -140,6 +175,7 @@ fn serve_desk<'p, 'a, K, R, A, C, G>(
     pens: &'p [OutletPen<A::Writer, G>],
     plan: RunPlan<A, C>,
     is_over: &'a AtomicBool,
+    board: &'a StatusBoard,
 ) -> Result<Left<K>, RunFault>
 where
     K: DeskName + Send + Sync,
@@ -165,7 +201,9 @@ where
     let clients = counted(alloc, clients, counts, is_over)?;
     let ends = ends_of(rt, alloc, shared, inlets, pens, clients, ports, rules)?;
     let Ends { lines, .. } = ends;
-    let ticks = ticks_of(rt, alloc, shared, count, counts, is_over, clock, pens);
+    let ticks = ticks_of(
+        rt, alloc, shared, count, counts, is_over, board, clock, pens,
+    );
     match serve(rt, alloc, lines, ticks) {
         Ok((lines, ticks)) => {
             left.end_lines(lines)?;

@@ -6,11 +6,12 @@ use std::fmt::{Display, Formatter};
 use std::time::Clock;
 use std::{fmt, str};
 
-/// Whose link is told of: a client or a port, by its number from 1.
+/// What is told of: a client or a port, by its number from 1, or the gateway itself.
 #[derive(Clone, Copy, Debug, PartialEq, Eq)]
 pub enum Whose {
     Client(usize),
     Port(usize),
+    Gateway,
 }
 
 impl Display for Whose {
@@ -18,6 +19,7 @@ impl Display for Whose {
         match self {
             Whose::Client(number) => write!(f, "C{number}"),
             Whose::Port(number) => write!(f, "P{number}"),
+            Whose::Gateway => write!(f, "gateway:"),
         }
     }
 }

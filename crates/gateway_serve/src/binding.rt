@@ -28,7 +28,7 @@ pub fn bind_all<R: Net<Listener = TcpListener, Stream = TcpStream> + Eprint>(
     }
     let endpoint = match control {
         Some(settings) => match listener_at(rt, settings.listen.as_str()) {
-            Some(listener) => Some((listener, rules_of(alloc, settings)?)),
+            Some(listener) => Some((listener, rules_of(alloc, settings, listens.len())?)),
             None => return Ok(None),
         },
         None => None,
@@ -57,8 +57,12 @@ fn listener_at<R: Net<Listener = TcpListener, Stream = TcpStream> + Eprint>(
 }
 
 /// The rules of an endpoint: its own names are the address that it listens at, those of this machine at the same TCP
-/// port, and the one that is set.
-fn rules_of(alloc: Global, settings: &ControlSettings) -> Result<Rules, AllocError> {
+/// port, and the one that is set. There are so many clients.
+fn rules_of(
+    alloc: Global,
+    settings: &ControlSettings,
+    clients: usize,
+) -> Result<Rules, AllocError> {
     let mut hosts = Vec::new(alloc);
     let listen = settings.listen.as_str();
     hosts.push(Vec::from_slice(alloc, listen.as_bytes())?)?;
@@ -75,5 +79,9 @@ fn rules_of(alloc: Global, settings: &ControlSettings) -> Result<Rules, AllocErr
         Some(token) => Some(Vec::from_slice(alloc, token.as_bytes())?),
         None => None,
     };
-    Ok(Rules { hosts, token })
+    Ok(Rules {
+        hosts,
+        token,
+        clients: u16::try_from(clients).unwrap_or(0),
+    })
 }

@@ -43,6 +43,11 @@ impl DayFlags {
         &self.are_clients_over
     }
 
+    /// Whether the links of ports end.
+    pub(crate) fn is_over(&self) -> bool {
+        self.is_over.load(Ordering::SeqCst)
+    }
+
     /// The flag that the links of ports look at. It is set once the last client's links have ended.
     pub(crate) fn ports(&self) -> &AtomicBool {
         &self.is_over

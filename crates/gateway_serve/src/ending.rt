@@ -47,12 +47,15 @@ fn watch<R: Clock + Wait>(
     flags: &DayFlags,
     lines: &LineQueue,
 ) {
-    let DaySettings { ends, linger, .. } = settings;
-    let end = match (ends, now(rt)) {
-        (Some(time), Some(now)) => Some(next_at(now, time)),
-        _ => None,
-    };
-    if !waits_for_the_end(rt, end, control) {
+    let end = end_of(rt, settings);
+    let DaySettings { linger, .. } = settings;
+    if !waits_for_the_end(rt, end, control, flags) {
+        return;
+    }
+    if flags.is_over() {
+        let _ = lines.tell(rt, "gateway: journal: write failed: nothing more is told");
+        flags.end_clients();
+        control.end_links();
         return;
     }
     let _ = lines.tell(rt, "gateway: the day ends: no further link is taken");
@@ -64,15 +67,32 @@ fn watch<R: Clock + Wait>(
         thread::sleep(rt, look());
     }
     flags.end_clients();
+    control.end_links();
 }
 
-/// Waits until the day is to end, by its time or since it is told to; `false` where it is over before.
-fn waits_for_the_end<R: Clock>(rt: &R, end: Option<u64>, control: &DayControl) -> bool {
+/// The first moment behind now at which the day ends by its time, in milliseconds since 1970; `None` where it ends when
+/// it is told to.
+pub(crate) fn end_of<R: Clock>(rt: &R, settings: DaySettings) -> Option<u64> {
+    let DaySettings { ends, .. } = settings;
+    match (ends, now(rt)) {
+        (Some(time), Some(now)) => Some(next_at(now, time)),
+        _ => None,
+    }
+}
+
+/// Waits until the day is to end, by its time, since it is told to, or since its journal is lost; `false` where it is
+/// over before.
+fn waits_for_the_end<R: Clock>(
+    rt: &R,
+    end: Option<u64>,
+    control: &DayControl,
+    flags: &DayFlags,
+) -> bool {
     for _ in 0..u64::MAX {
         if control.is_over() {
             return false;
         }
-        if control.is_ending() || is_reached(rt, end) {
+        if control.is_ending() || flags.is_over() || is_reached(rt, end) {
             return true;
         }
         thread::sleep(rt, look());
@@ -89,7 +109,7 @@ fn is_reached<R: Clock>(rt: &R, end: Option<u64>) -> bool {
 }
 
 /// Now, in milliseconds since 1970; `None` where the system can't say, or is 285 million years from then.
-fn now<R: Clock>(rt: &R) -> Option<u64>
+pub(crate) fn now<R: Clock>(rt: &R) -> Option<u64>
     ensures { IfSome result (λ now. now < 2 ^ 63) }
 {
     let since = rt.since_1970().ok()?;

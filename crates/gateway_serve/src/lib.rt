@@ -6,10 +6,12 @@
 mod binding;
 mod day_flags;
 mod ending;
+mod naming;
 mod open_orders;
 mod pacing;
 mod served_port;
 mod serving;
+mod standing;
 mod waiting_room;
 
 pub use binding::{Bound, bind_all};

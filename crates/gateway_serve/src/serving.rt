@@ -3,10 +3,13 @@
 use crate::binding::Bound;
 use crate::day_flags::DayFlags;
 use crate::ending::end_in_time;
+use crate::naming::names_of;
 use crate::served_port::ServedPort;
 use crate::waiting_room::WaitingRoom;
 use gateway_control::{DayControl, Endpoint, serve_endpoint};
-use gateway_run::{Day, LinkRules, RunFault, RunPlan, SettingsFile, Teller, Whose, run};
+use gateway_run::{
+    Day, DayJournal, LinkRules, RunFault, RunPlan, SettingsFile, Teller, Whose, run_shown,
+};
 use operator_settings::{AddressRange, OperatorSettings};
 use std::alloc::{AllocError, Global};
 use std::hash::RandomState;
@@ -29,6 +32,7 @@ pub fn serve_day<R>(
     operator: OperatorSettings,
     bound: Bound,
     lines: Arc<LineQueue>,
+    journal: Option<DayJournal>,
 ) -> Result<Day, RunFault>
 where
     R: Threads
@@ -43,13 +47,14 @@ where
         + 'static,
 {
     let Bound { clients, control } = bound;
-    let asked = control_of(alloc)?;
+    let asked = control_of(alloc, clients.len())?;
     let flags = flags_of(alloc)?;
+    let OperatorSettings { day, from, .. } = operator;
+    let names = names_of(rt, alloc, &file.settings, &file.addresses, day)?;
     let endpoint = match control {
-        Some((listener, rules)) => serve_endpoint(rt, alloc, listener, rules, &asked)?,
+        Some((listener, rules)) => serve_endpoint(rt, alloc, listener, rules, names, &asked)?,
         None => None,
     };
-    let OperatorSettings { day, from, .. } = operator;
     let theirs = Arc::try_clone(&asked)?;
     let told = Arc::try_clone(&lines)?;
     let Some(ender) = end_in_time(rt, day, theirs, Arc::try_clone(&flags)?, told) else {
@@ -62,8 +67,17 @@ where
         ..
     } = file;
     let queued = Queued::new(*rt, &lines);
-    let ran = match plan_of(&queued, alloc, clients, &from, &addresses, &flags) {
-        Ok(plan) => run(&queued, alloc, hasher, settings, plan, flags.ports()),
+    let ran = match plan_of(&queued, alloc, clients, &from, &addresses, &flags, &asked) {
+        Ok(plan) => run_shown(
+            &queued,
+            alloc,
+            hasher,
+            settings,
+            journal,
+            plan,
+            flags.ports(),
+            asked.board(),
+        ),
         Err(_) => Err(RunFault::NoMemory),
     };
     asked.close();
@@ -72,9 +86,9 @@ where
     ran
 }
 
-/// What is asked of a day, for whoever asks and whoever looks.
-fn control_of(alloc: Global) -> Result<Arc<DayControl>, AllocError> {
-    Ok(Arc::new(alloc, DayControl::new())?)
+/// What is asked of a day with so many clients, for whoever asks and whoever looks.
+fn control_of(alloc: Global, clients: usize) -> Result<Arc<DayControl>, AllocError> {
+    Ok(Arc::new(alloc, DayControl::new(alloc, clients)?)?)
 }
 
 /// The flags of a day, for whoever sets and whoever looks.
@@ -100,8 +114,9 @@ fn plan_of<'a, R: Clock + Eprint>(
     from: &'a [Vec<AddressRange>],
     addresses: &'a [String],
     flags: &'a DayFlags,
+    asked: &'a DayControl,
 ) -> Result<DayPlan<'a, R>, AllocError> {
-    let clients = rooms_of(rt, alloc, listeners, from, flags)?;
+    let clients = rooms_of(rt, alloc, listeners, from, flags, asked)?;
     let ports = ports_of(rt, alloc, addresses, flags)?;
     Ok(RunPlan {
         clients,
@@ -120,6 +135,7 @@ fn rooms_of<'a, R: Clock + Eprint>(
     listeners: Vec<TcpListener>,
     from: &'a [Vec<AddressRange>],
     flags: &'a DayFlags,
+    asked: &'a DayControl,
 ) -> Result<Vec<WaitingRoom<'a, R>>, AllocError> {
     let mut rooms = Vec::with_capacity(alloc, listeners.len())?;
     for listener in listeners {
@@ -129,7 +145,11 @@ fn rooms_of<'a, R: Clock + Eprint>(
             None => &[],
         };
         let teller = Teller::new(rt, Whose::Client(at.saturating_add(1)));
-        rooms.push(WaitingRoom::new(rt, alloc, listener, ranges, teller, flags))?;
+        let ends = match asked.link(at) {
+            Some(flag) => flag,
+            None => flags.clients(),
+        };
+        rooms.push(WaitingRoom::new(rt, alloc, listener, ranges, teller, flags, ends))?;
     }
     Ok(rooms)
 }

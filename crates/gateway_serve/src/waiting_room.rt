@@ -11,7 +11,7 @@ use std::alloc::Global;
 use std::fmt::{Display, Formatter};
 use std::io::ErrorKind;
 use std::net::{Net, SocketAddr, TcpListener, TcpStream};
-use std::sync::atomic::Ordering;
+use std::sync::atomic::{AtomicBool, Ordering};
 use std::time::{Clock, Duration, Instant};
 use std::{fmt, thread};
 
@@ -57,6 +57,8 @@ pub(crate) struct WaitingRoom<'a, R> {
     from: &'a [AddressRange],
     teller: Teller<'a, R>,
     flags: &'a DayFlags,
+    /// Whether the link that is open is to end.
+    ends: &'a AtomicBool,
     silent: Vec<Silent>,
     opened: u64,
     is_closed: bool,
@@ -65,7 +67,7 @@ pub(crate) struct WaitingRoom<'a, R> {
 }
 
 impl<'a, R: Clock + Eprint> WaitingRoom<'a, R> {
-    /// Over a listener, for peers of these addresses. Takes no memory.
+    /// Over a listener, for peers of these addresses. A link ends once `ends` is set. Takes no memory.
     pub(crate) fn new(
         rt: &'a R,
         alloc: Global,
@@ -73,6 +75,7 @@ impl<'a, R: Clock + Eprint> WaitingRoom<'a, R> {
         from: &'a [AddressRange],
         teller: Teller<'a, R>,
         flags: &'a DayFlags,
+        ends: &'a AtomicBool,
     ) -> WaitingRoom<'a, R> {
         let _ = listener.set_nonblocking(true);
         WaitingRoom {
@@ -81,6 +84,7 @@ impl<'a, R: Clock + Eprint> WaitingRoom<'a, R> {
             from,
             teller,
             flags,
+            ends,
             silent: Vec::new(alloc),
             opened: 0,
             is_closed: false,
@@ -243,10 +247,15 @@ impl<'a, R: Net<Listener = TcpListener, Stream = TcpStream> + Clock + Eprint> Op
             return None;
         };
         let Silent { stream, peer, .. } = silent;
+        self.ends.store(false, Ordering::SeqCst);
+        if self.flags.clients().load(Ordering::SeqCst) {
+            self.is_closed = true;
+            return None;
+        }
         if stream.set_nonblocking(false).is_err() {
             return Some(Err(LinkFault::ReadFailed));
         }
-        match link_of(self.rt, stream, self.flags.clients()) {
+        match link_of(self.rt, stream, self.ends) {
             Ok(link) => {
                 self.opened += 1;
                 self.tell_up(peer);

@@ -1,12 +1,12 @@
 //! The lines of the cases, one after another.
 
-use crate::chance::Chance;
 use crate::endless::read_endless;
 use crate::reading::read_stream;
 use crate::recorded::{Form, stream_of};
 use crate::tally::Tally;
 use crate::writing::write_lists;
 use script_lines::{Line, LineFault, line_of};
+use seeded_choices::Chance;
 use std::alloc::{AllocError, Global};
 use std::io::{self, Write};
 

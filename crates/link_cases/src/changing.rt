@@ -1,6 +1,6 @@
 //! Changes of bytes.
 
-use crate::chance::Chance;
+use seeded_choices::Chance;
 use std::alloc::{AllocError, Global};
 
 /// The most bytes that a change adds where it adds few.

@@ -1,9 +1,9 @@
 //! A stream without an end, read to the last step.
 
-use crate::chance::Chance;
 use crate::gate::Kept;
 use crate::tally::print_count;
 use link_io::{ClientNumber, ClientReader, LinkFault, Progress};
+use seeded_choices::Chance;
 use std::alloc::Global;
 use std::io::{self, Read, Write};
 

@@ -3,8 +3,8 @@
 ghost use Rattle.std.specs.Prelude.{◌≡◌, map, IfOk};
 ghost use Rattle.gate_events.specs.Seen.{link_out_seen};
 
-use crate::chance::Chance;
 use link_io::{Event, Gate, LinkOut, ShortList};
+use seeded_choices::Chance;
 use std::alloc::{AllocError, Global};
 use std::sync::Wait;
 

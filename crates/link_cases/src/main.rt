@@ -5,7 +5,6 @@
 #![tactic(auto)]
 
 mod cases;
-mod chance;
 mod changing;
 mod endless;
 mod gate;

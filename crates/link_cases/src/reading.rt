@@ -1,6 +1,5 @@
 //! Streams that are read, and what a plain program makes of them.
 
-use crate::chance::Chance;
 use crate::gate::Kept;
 use crate::plain_frames::read_frames;
 use crate::plain_packets::read_packets;
@@ -10,6 +9,7 @@ use crate::tally::Tally;
 use link_io::{
     ClientNumber, ClientReader, Decoder, Event, LinkFault, PortNumber, PortReader, Progress, Reader,
 };
+use seeded_choices::Chance;
 use std::alloc::{AllocError, Global};
 
 /// The client's and the port's number, and the link's.

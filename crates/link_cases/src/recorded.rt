@@ -1,8 +1,8 @@
 //! Streams of what was recorded, with changes.
 
-use crate::chance::Chance;
 use crate::changing::changed;
 use crate::plain_frames::{OPENING, SOH, trailer_of};
+use seeded_choices::Chance;
 use std::alloc::{AllocError, Global};
 
 /// The most units of a stream.

@@ -1,6 +1,6 @@
 //! Streams that move few bytes at once.
 
-use crate::chance::Chance;
+use seeded_choices::Chance;
 use std::io::{self, ErrorKind, Read, Write};
 
 /// A reader of these bytes, that gives up to so many a read.

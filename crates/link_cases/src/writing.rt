@@ -1,11 +1,11 @@
 //! Lists of what links are told, and what goes out on one of them.
 
-use crate::chance::Chance;
 use crate::gate::Kept;
 use crate::recorded::one_of;
 use crate::streams::Torn;
 use crate::tally::Tally;
 use link_io::{BatchWriter, LinkFault, LinkOut, ShortList};
+use seeded_choices::Chance;
 use std::alloc::{AllocError, Global};
 
 /// The number of the client or port, and its link.

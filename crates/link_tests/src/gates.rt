@@ -6,15 +6,25 @@ ghost use Rattle.gate_events.specs.Seen.{link_out_seen};
 use link_io::{Event, Gate, LinkOut, ShortList};
 use std::alloc::{AllocError, Global};
 use std::sync::Wait;
+use std::sync::atomic::{AtomicU32, AtomicU64, Ordering};
 
-/// A gate that keeps the events that were put and the lists that were taken. It gives each event back where it is full.
+/// A gate that keeps the events that were put, the lists that were taken, and what it was told of its link. It gives
+/// each event back where it is full, and else so often before it takes it.
 pub struct Kept {
     alloc: Global,
     pub events: Vec<Event>,
     pub is_full: bool,
+    /// How often it gives each event back, and how often yet the next one.
+    pub gives_back: u32,
+    pub left: u32,
     /// The lists that lie there, the last one first.
     pub lists: Vec<ShortList<LinkOut>>,
     pub given: Vec<ShortList<LinkOut>>,
+    /// The last count of skipped bytes that it was told, and how often it was told one.
+    pub skipped: AtomicU64,
+    pub often: AtomicU32,
+    /// How many bytes of frames it was told.
+    pub sent: AtomicU64,
 }
 
 /// Written by hand, so that one call drops all.
@@ -24,14 +34,19 @@ impl Drop for Kept {
             alloc: _,
             events: _,
             is_full: _,
+            gives_back: _,
+            left: _,
             lists: _,
             given: _,
+            skipped: _,
+            often: _,
+            sent: _,
         } = self;
     }
 }
 
 impl Kept {
-    /// Nothing was put, and nothing lies there.
+    /// Nothing was put, and nothing lies there. It takes each event at once.
     pub fn new(alloc: Global) -> Kept
         ensures given { result.given.items ≡ [] }
     {
@@ -39,8 +54,13 @@ impl Kept {
             alloc,
             events: Vec::new(alloc),
             is_full: false,
+            gives_back: 0,
+            left: 0,
             lists: Vec::new(alloc),
             given: Vec::new(alloc),
+            skipped: AtomicU64::new(0),
+            often: AtomicU32::new(0),
+            sent: AtomicU64::new(0),
         }
     }
 
@@ -59,10 +79,36 @@ impl Kept {
         list.push(self.alloc, LinkOut::Close { link })?;
         Ok(self.lists.push(list)?)
     }
+
+    /// The same bytes for a link, and behind them for link 6, which is closed.
+    fn lay_beside(&mut self, link: u64, bytes: &[u8]) -> Result<(), AllocError>
+        ensures given { self.new.given ≡ self.old.given }
+    {
+        let mut list = list_of(self.alloc, link, bytes)?;
+        let bytes = Vec::from_slice(self.alloc, bytes)?;
+        list.push(self.alloc, LinkOut::Write { link: 6, bytes })?;
+        list.push(self.alloc, LinkOut::Close { link: 6 })?;
+        Ok(self.lists.push(list)?)
+    }
+}
+
+/// Two lists up to a `Close` for a link, with bytes and a `Close` for link 6 between, and one for another behind it.
+pub fn lay_up_to_close(
+    kept: &mut Kept,
+    link: u64,
+    first: &[u8],
+    second: &[u8],
+    behind: u64,
+) -> Result<(), AllocError>
+    ensures given { kept.new.given ≡ kept.old.given }
+{
+    kept.lay(behind, first)?;
+    kept.lay_last(link, second)?;
+    kept.lay_beside(link, first)
 }
 
 /// A list of these bytes for a link.
-pub fn list_of(alloc: Global, link: u64, bytes: &[u8]) -> Result<ShortList<LinkOut>, AllocError> {
+fn list_of(alloc: Global, link: u64, bytes: &[u8]) -> Result<ShortList<LinkOut>, AllocError> {
     let bytes = Vec::from_slice(alloc, bytes)?;
     Ok(ShortList::of(LinkOut::Write { link, bytes }))
 }
@@ -79,6 +125,11 @@ impl Gate for Kept {
         if self.is_full {
             return Err(event);
         }
+        if self.left > 0 {
+            self.left -= 1;
+            return Err(event);
+        }
+        self.left = self.gives_back;
         match self.events.push(event) {
             Ok(()) => Ok(()),
             Err(refused) => Err(refused.value),
@@ -98,6 +149,15 @@ impl Gate for Kept {
 
     fn turn<R: Wait>(&mut self, _rt: &R, _alloc: Global) -> Result<u32, AllocError> {
         Ok(0)
+    }
+
+    fn tell_skipped(&self, count: u64) {
+        self.skipped.store(count, Ordering::SeqCst);
+        self.often.fetch_add(1, Ordering::SeqCst);
+    }
+
+    fn tell_sent(&self, frames: &[u8]) {
+        self.sent.fetch_add(frames.len() as u64, Ordering::SeqCst);
     }
 }
 

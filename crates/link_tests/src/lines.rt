@@ -170,7 +170,6 @@ impl<'a> Closer for Shuts<'a> {
 }
 
 /// Opens so many links of the same bytes; where `fails_at` of them are left, opening fails once.
-#[derive(Drop)]
 pub struct Links<'a> {
     pub stream: &'a [u8],
     pub left: u32,
@@ -178,6 +177,20 @@ pub struct Links<'a> {
     pub bytes: &'a AtomicU32,
     pub often: &'a AtomicU32,
     pub ends: Vec<LinkEnd>,
+}
+
+/// Written by hand, so that one call drops all.
+impl<'a> Drop for Links<'a> {
+    fn drop(self) {
+        let Links {
+            stream: _,
+            left: _,
+            fails_at: _,
+            bytes: _,
+            often: _,
+            ends: _,
+        } = self;
+    }
 }
 
 impl<'a> Opener for Links<'a> {
@@ -219,7 +232,6 @@ impl<'a> Opener for Links<'a> {
 }
 
 /// The flags and counts of a test.
-#[derive(Drop)]
 pub struct Seen {
     pub first: AtomicBool,
     pub second: AtomicBool,
@@ -228,6 +240,21 @@ pub struct Seen {
     pub bytes: AtomicU32,
     pub often: AtomicU32,
     pub woken: AtomicU32,
+}
+
+/// Written by hand, so that one call drops all.
+impl Drop for Seen {
+    fn drop(self) {
+        let Seen {
+            first: _,
+            second: _,
+            never: _,
+            is_failed: _,
+            bytes: _,
+            often: _,
+            woken: _,
+        } = self;
+    }
 }
 
 impl Seen {

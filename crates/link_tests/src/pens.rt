@@ -3,15 +3,16 @@
 ghost use Rattle.std.specs.Prelude.{◌≡◌, [], IfOk};
 
 use super::gates::Kept;
-use super::streams::Torn;
-use gate_workers::{Clock, Pen, WriterEnd};
+use super::lines::Sleeping;
+use super::streams::{Torn, holds};
+use gate_workers::{Pen, WriterEnd};
+use link_io::LinkFault;
 use std::alloc::{AllocError, Global};
 use std::process::Abort;
 use std::sync::Wait;
 use std::sync::atomic::{AtomicBool, Ordering};
 use std::test::Fail;
-use std::thread;
-use std::time::{self, Duration};
+use std::{thread, time};
 
 /// A packet of two bytes, and one of three.
 const FIRST: &[u8; 5] = b"\x00\x03+hi";
@@ -23,44 +24,37 @@ const BOTH: &[u8; 11] = b"\x00\x03+hi\x00\x04Sabc";
 
 const OTHER: &[u8; 11] = b"\x00\x04Sabc\x00\x03+hi";
 
-/// A clock whose pauses last a millisecond.
-#[derive(Drop)]
-struct Sleeping<'a, R> {
-    rt: &'a R,
-}
-
-impl<'a, R: time::Clock> Clock for Sleeping<'a, R> {
-    fn now_ms(&mut self) -> u64 {
-        0
-    }
-
-    fn pause(&mut self) {
-        thread::sleep(self.rt, Duration::from_millis(1));
-    }
-}
-
-/// Two lists for link 1, of which the second closes it where that is said, and behind it two for link 2.
-fn gate_of_two_links(alloc: Global, is_closed: bool) -> Result<Kept, AllocError>
+/// Two lists for link 1, of which the second closes it, and behind it two for link 2.
+fn gate_of_two_links(alloc: Global) -> Result<Kept, AllocError>
     ensures { IfOk result (λ gate. gate.given.items ≡ []) }
 {
     let mut gate = Kept::new(alloc);
     gate.lay(2, FIRST)?;
     gate.lay(2, SECOND)?;
-    if is_closed {
-        gate.lay_last(1, SECOND)?;
-    } else {
-        gate.lay(1, SECOND)?;
-    }
+    gate.lay_last(1, SECOND)?;
     gate.lay(1, FIRST)?;
     Ok(gate)
 }
 
-fn torn(alloc: Global, size: usize) -> Torn {
-    Torn {
-        taken: Vec::new(alloc),
-        size,
-        writes_left: 100_000,
-    }
+/// Whether a pen opens its link of this number, on a stream that takes so many bytes a write.
+fn opens<R: Wait>(rt: &R, alloc: Global, pen: &Pen<Torn, Kept>, link: u64, size: usize) -> bool {
+    let stream = Torn::new(alloc, size, 100_000);
+    pen.open(rt, alloc, 1, link, 100_000, stream).is_ok()
+}
+
+/// What a writer wrote: this end, with these bytes on its stream.
+pub fn wrote<R: Abort>(
+    rt: &R,
+    written: Option<(Result<WriterEnd, LinkFault>, Torn)>,
+    end: Result<WriterEnd, LinkFault>,
+    bytes: &[u8],
+) -> Result<(), Fail> {
+    let Some((ended, stream)) = written else {
+        return Err(Fail::new("no link"));
+    };
+    holds(rt, ended == end);
+    holds(rt, stream.taken.as_slice() == bytes);
+    Ok(())
 }
 
 /// Writes what the link is told to its end: this end, with these bytes on its stream.
@@ -72,57 +66,84 @@ fn written<R: Wait + Abort + time::Clock>(
     end: WriterEnd,
     bytes: &[u8],
 ) -> Result<(), Fail> {
-    let Some((ended, stream)) = pen.write_all(rt, alloc, &mut Sleeping { rt }, stop) else {
-        return Err(Fail::new("no link"));
-    };
-    assert_eq!(rt; ended, Ok(end));
-    assert!(rt; stream.taken.as_slice() == bytes);
-    Ok(())
+    let written = pen.write_all(rt, alloc, &mut Sleeping::new(rt, None), stop);
+    wrote(rt, written, Ok(end), bytes)
 }
 
 #[test]
 fn what_one_began_another_goes_on_with(rt: HostRuntime) -> Result<(), Fail> {
     let alloc = rt.alloc();
-    let pen = Pen::new(gate_of_two_links(alloc, true)?);
-    assert!(rt; !pen.write(alloc));
-    assert!(rt; pen.open(&rt, alloc, 1, 2, 100, torn(alloc, 4)).is_err());
-    assert!(rt; pen.open(&rt, alloc, 1, 1, 100, torn(alloc, 4)).is_ok());
-    assert!(rt; pen.open(&rt, alloc, 1, 2, 100, torn(alloc, 4)).is_err());
-    assert!(rt; !pen.write(alloc));
-    let stop = AtomicBool::new(false);
-    written(&rt, alloc, &pen, &stop, WriterEnd::Closed, BOTH)?;
-    assert!(rt;
-        pen.write_all(&rt, alloc, &mut Sleeping { rt: &rt }, &stop)
-            .is_none()
-    );
-    assert!(rt; pen.open(&rt, alloc, 1, 2, 100, torn(alloc, 100)).is_ok());
-    assert!(rt; pen.write(alloc));
-    stop.store(true, Ordering::SeqCst);
-    written(&rt, alloc, &pen, &stop, WriterEnd::Stopped, OTHER)?;
+    let pen = Pen::new(gate_of_two_links(alloc)?);
+    write_two_links(&rt, alloc, &pen)?;
     let Ok(gate) = pen.into_gate() else {
         return Err(Fail::new("a link is open"));
     };
-    assert!(rt; gate.lists.is_empty());
-    assert!(rt; gate.given.len() == 4);
+    holds(&rt, gate.lists.is_empty());
+    holds(&rt, gate.given.len() == 4);
     Ok(())
+}
+
+/// Writes link 1 and then link 2, each to its end; neither is opened before its turn.
+fn write_two_links<R: Wait + Abort + time::Clock>(
+    rt: &R,
+    alloc: Global,
+    pen: &Pen<Torn, Kept>,
+) -> Result<(), Fail> {
+    let stop = AtomicBool::new(false);
+    opens_the_first(rt, alloc, pen);
+    written(rt, alloc, pen, &stop, WriterEnd::Closed, BOTH)?;
+    opens_the_second(rt, alloc, pen, &stop);
+    stop.store(true, Ordering::SeqCst);
+    written(rt, alloc, pen, &stop, WriterEnd::Stopped, OTHER)
+}
+
+/// Nothing is written before link 1 is open, a prompt write leaves a rest then, and link 2 can't be opened.
+fn opens_the_first<R: Wait + Abort>(rt: &R, alloc: Global, pen: &Pen<Torn, Kept>) {
+    holds(rt, !pen.write(alloc));
+    holds(rt, !opens(rt, alloc, pen, 2, 4));
+    holds(rt, opens(rt, alloc, pen, 1, 4));
+    holds(rt, !opens(rt, alloc, pen, 2, 4));
+    holds(rt, !pen.write(alloc));
+}
+
+/// No link is open until link 2 is opened, and then a prompt write leaves nothing.
+fn opens_the_second<R: Wait + Abort + time::Clock>(
+    rt: &R,
+    alloc: Global,
+    pen: &Pen<Torn, Kept>,
+    stop: &AtomicBool,
+) {
+    let none = pen.write_all(rt, alloc, &mut Sleeping::new(rt, None), stop);
+    holds(rt, none.is_none());
+    holds(rt, opens(rt, alloc, pen, 2, 100));
+    holds(rt, pen.write(alloc));
 }
 
 #[test]
 fn what_links_that_are_over_are_told_is_let_go(rt: HostRuntime) -> Result<(), Fail> {
     let alloc = rt.alloc();
-    let pen = Pen::new(gate_of_two_links(alloc, true)?);
+    let pen = Pen::new(gate_of_two_links(alloc)?);
     pen.let_go(&rt, alloc);
-    assert!(rt; pen.open(&rt, alloc, 1, 1, 100, torn(alloc, 100)).is_ok());
+    holds(&rt, opens(&rt, alloc, &pen, 1, 100));
     pen.let_go(&rt, alloc);
     let Err(pen) = pen.into_gate() else {
         return Err(Fail::new("no link is open"));
     };
+    write_and_let_go(&rt, alloc, &pen)
+}
+
+/// Writes link 1 to its end, and lets what link 2 is told go before that is opened.
+fn write_and_let_go<R: Wait + Abort + time::Clock>(
+    rt: &R,
+    alloc: Global,
+    pen: &Pen<Torn, Kept>,
+) -> Result<(), Fail> {
     let stop = AtomicBool::new(false);
-    written(&rt, alloc, &pen, &stop, WriterEnd::Closed, BOTH)?;
-    pen.let_go(&rt, alloc);
-    assert!(rt; pen.open(&rt, alloc, 1, 2, 100, torn(alloc, 100)).is_ok());
+    written(rt, alloc, pen, &stop, WriterEnd::Closed, BOTH)?;
+    pen.let_go(rt, alloc);
+    holds(rt, opens(rt, alloc, pen, 2, 100));
     stop.store(true, Ordering::SeqCst);
-    written(&rt, alloc, &pen, &stop, WriterEnd::Stopped, b"")
+    written(rt, alloc, pen, &stop, WriterEnd::Stopped, b"")
 }
 
 /// A gate of a thousand lists for link 1.
@@ -141,7 +162,7 @@ fn gate_of_many(alloc: Global) -> Result<Kept, AllocError>
 fn two_threads_write_a_link_together(rt: HostRuntime) -> Result<(), Fail> {
     let alloc = rt.alloc();
     let pen = Pen::new(gate_of_many(alloc)?);
-    assert!(rt; pen.open(&rt, alloc, 1, 1, 100_000, torn(alloc, 7)).is_ok());
+    holds(&rt, opens(&rt, alloc, &pen, 1, 7));
     let stop = AtomicBool::new(false);
     let shared = &pen;
     let flag = &stop;
@@ -167,13 +188,14 @@ fn written_in_turns<R: Wait + Abort + time::Clock>(
     pen: &Pen<Torn, Kept>,
     stop: &AtomicBool,
 ) -> Result<(), Fail> {
-    let Some((ended, stream)) = pen.write_all(rt, alloc, &mut Sleeping { rt }, stop) else {
+    let written = pen.write_all(rt, alloc, &mut Sleeping::new(rt, None), stop);
+    let Some((ended, stream)) = written else {
         return Err(Fail::new("no link"));
     };
-    assert_eq!(rt; ended, Ok(WriterEnd::Stopped));
-    assert!(rt; stream.taken.len() == 5_500);
+    holds(rt, ended == Ok(WriterEnd::Stopped));
+    holds(rt, stream.taken.len() == 5_500);
     for pair in stream.taken.chunks(11) {
-        assert!(rt; pair == BOTH.as_slice());
+        holds(rt, pair == BOTH.as_slice());
     }
     Ok(())
 }

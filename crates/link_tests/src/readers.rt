@@ -3,7 +3,7 @@
 ghost use Rattle.std.specs.Prelude.{◌≤◌};
 
 use super::gates::Kept;
-use super::streams::{Endless, Pieces};
+use super::streams::{Endless, Pieces, holds};
 use link_io::{ClientNumber, ClientReader, Event, LinkFault, PortNumber, PortReader, Progress};
 use std::alloc::{AllocError, Global};
 use std::process::Abort;
@@ -59,9 +59,7 @@ fn tell(bytes: &mut Vec<u8>, event: &Event) -> Result<(), AllocError> {
             at,
             frame,
         } => {
-            bytes.extend_from_slice(&client.number().to_be_bytes())?;
-            bytes.extend_from_slice(&link.to_be_bytes())?;
-            bytes.extend_from_slice(&at.to_be_bytes())?;
+            tell_head(bytes, client.number(), *link, *at)?;
             bytes.extend_from_slice(frame.fields().text())
         }
         Event::PortPacket {
@@ -70,14 +68,18 @@ fn tell(bytes: &mut Vec<u8>, event: &Event) -> Result<(), AllocError> {
             at,
             packet,
         } => {
-            bytes.extend_from_slice(&port.number().to_be_bytes())?;
-            bytes.extend_from_slice(&link.to_be_bytes())?;
-            bytes.extend_from_slice(&at.to_be_bytes())?;
+            tell_head(bytes, port.number(), *link, *at)?;
             bytes.extend_from_slice(&[packet.kind])?;
             bytes.extend_from_slice(packet.payload.as_slice())
         }
         _ => bytes.extend_from_slice(b"other"),
     }
+}
+
+fn tell_head(bytes: &mut Vec<u8>, number: u16, link: u64, at: u64) -> Result<(), AllocError> {
+    bytes.extend_from_slice(&number.to_be_bytes())?;
+    bytes.extend_from_slice(&link.to_be_bytes())?;
+    bytes.extend_from_slice(&at.to_be_bytes())
 }
 
 /// One heartbeat of client 2 on link 7 at moment 5.
@@ -141,16 +143,16 @@ fn puts_both<R: Abort>(rt: &R, alloc: Global, size: usize, gate: &mut Kept) -> R
 /// Both frames of the client were put.
 fn tells_both<R: Abort>(rt: &R, alloc: Global, gate: &Kept) -> Result<(), Fail> {
     let events = told_of(alloc, gate)?;
-    assert!(rt; events.len() == 2 * FROM_CLIENT.len());
-    assert!(rt; events.starts_with(FROM_CLIENT.as_slice()));
-    assert!(rt; events.ends_with(FROM_CLIENT.as_slice()));
+    holds(rt, events.len() == 2 * FROM_CLIENT.len());
+    holds(rt, events.starts_with(FROM_CLIENT.as_slice()));
+    holds(rt, events.ends_with(FROM_CLIENT.as_slice()));
     Ok(())
 }
 
 /// So much was put.
 fn tells<R: Abort>(rt: &R, alloc: Global, gate: &Kept, expected: &[u8]) -> Result<(), Fail> {
     let events = told_of(alloc, gate)?;
-    assert!(rt; events.as_slice() == expected);
+    holds(rt, events.as_slice() == expected);
     Ok(())
 }
 
@@ -250,7 +252,10 @@ fn a_reader_that_fails_at_each_read(rt: HostRuntime) {
     for reads in 0..HEARTBEAT.len() + 1 {
         let mut gate = Kept::new(rt.alloc());
         fails_at(&rt, rt.alloc(), reads, &mut gate);
-        assert!(rt; gate.events.len() == usize::from(reads == HEARTBEAT.len()));
+        holds(
+            &rt,
+            gate.events.len() == usize::from(reads == HEARTBEAT.len()),
+        );
     }
 }
 
@@ -292,7 +297,7 @@ fn hold<R: Abort>(
     for at in 5..10 {
         let done = reader.step(alloc, stream, gate, at);
         came_to(rt, done, Ok(Progress::Held));
-        assert!(rt; stream.reads_left == 0);
+        holds(rt, stream.reads_left == 0);
     }
     gate.is_full = false;
     steps_to(rt, alloc, reader, stream, gate, Err(LinkFault::ReadFailed));
@@ -326,6 +331,6 @@ fn read_to_limit<R: Abort>(rt: &R, alloc: Global, reader: &mut ClientReader, gat
     for _ in 0..2 {
         let done = reader.step(alloc, &mut stream, gate, 5);
         came_to(rt, done, Err(LinkFault::StepLimit));
-        assert!(rt; stream.reads == 9_999);
+        holds(rt, stream.reads == 9_999);
     }
 }

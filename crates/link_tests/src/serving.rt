@@ -1,9 +1,10 @@
 //! Lines that are served at once.
 
-ghost use Rattle.std.specs.Prelude.{◌≡◌, ◌≤◌, [], IfOk};
+ghost use Rattle.std.specs.Prelude.{◌≡◌, ◌≤◌, []};
 
 use super::gates::Kept;
 use super::lines::{Counted, Links, Seen, Sleeping, Waiting};
+use super::streams::holds;
 use gate_events::{ClientNumber, Event, LinkOut, PortNumber, Recipient};
 use gate_serving::{Line, PenWorker, Ticks, Worker, WriterEnd, serve};
 use gate_workers::Pen;
@@ -28,39 +29,31 @@ type TestLine<'p, 'a, R> = Line<
     PenWorker<'p, Counted<'a>, Waiting<'a, R>, Sleeping<'a, R>>,
 >;
 
-/// A gate with a list of this alone, which lies there.
-fn kept_with(alloc: Global, out: LinkOut) -> Result<Kept, AllocError>
-    ensures { IfOk result (λ kept. kept.given.items ≡ []) }
-{
-    let list = ShortList::of(out);
-    let mut kept = Kept::new(alloc);
-    kept.lists.push(list)?;
-    Ok(kept)
-}
-
-/// A writer's gate with a list that lies there, which sets `is_taken` as it is taken.
-fn writing_gate<'a, R>(
+/// A gate at which nothing lies. Its put of this number, from 1, waits for `goes_on`; of number 0 none waits. As its
+/// last list is taken `is_taken` is set.
+fn gate_of<'a, R>(
     rt: &'a R,
     alloc: Global,
     seen: &'a Seen,
-    out: LinkOut,
+    waits_at: u32,
+    goes_on: &'a AtomicBool,
     is_taken: &'a AtomicBool,
-) -> Result<Waiting<'a, R>, AllocError>
-    ensures { IfOk result (λ gate. gate.kept.given.items ≡ []) }
+) -> Waiting<'a, R>
+    ensures { result.kept.given.items ≡ [] }
 {
-    Ok(Waiting {
+    Waiting {
         rt,
-        kept: kept_with(alloc, out)?,
-        waits_at: 0,
-        goes_on: &seen.never,
+        kept: Kept::new(alloc),
+        waits_at,
+        goes_on,
         is_taken,
         is_failed: &seen.is_failed,
         puts: 0,
         woken: &seen.woken,
-    })
+    }
 }
 
-/// A reader's gate whose put of this number, from 1, waits for a flag. Of number 0 none waits.
+/// A reader's gate, whose put of this number waits for a flag.
 fn reading_gate<'a, R>(
     rt: &'a R,
     alloc: Global,
@@ -68,24 +61,7 @@ fn reading_gate<'a, R>(
     waits_at: u32,
     goes_on: &'a AtomicBool,
 ) -> Waiting<'a, R> {
-    Waiting {
-        rt,
-        kept: Kept::new(alloc),
-        waits_at,
-        goes_on,
-        is_taken: &seen.never,
-        is_failed: &seen.is_failed,
-        puts: 0,
-        woken: &seen.woken,
-    }
-}
-
-/// A heartbeat for the first link.
-fn heartbeat(alloc: Global) -> Result<LinkOut, AllocError> {
-    Ok(LinkOut::Write {
-        link: 1,
-        bytes: Vec::from_slice(alloc, HEARTBEAT.as_slice())?,
-    })
+    gate_of(rt, alloc, seen, waits_at, goes_on, &seen.never)
 }
 
 /// So many links of these bytes; where `fails_at` of them are left, opening fails once.
@@ -140,33 +116,22 @@ fn served<'p, 'a, R: Threads + Wait + time::Clock + Sync>(
     }
 }
 
-/// The line of a client of this number, whose one link brings these bytes.
-fn client_line<'p, 'a, R: time::Clock>(
+/// Puts the line of a client of this number behind others; its one link brings these bytes.
+fn push_client<'p, 'a, R: time::Clock>(
     rt: &'a R,
     alloc: Global,
     seen: &'a Seen,
+    lines: &mut Vec<TestLine<'p, 'a, R>>,
     number: u16,
     stream: &'a [u8],
     reader: Waiting<'a, R>,
     pen: &'p TestPen<'a, R>,
-) -> TestLine<'p, 'a, R>
+) -> Result<(), AllocError>
     requires { 1 ≤ number }
 {
     let links = links_of(alloc, stream, 1, 0, seen);
     let client = Recipient::Client(ClientNumber::new(number));
-    line_of(rt, client, links, reader, pen)
-}
-
-/// Serves the line of the first client, whose one link brings a heartbeat.
-fn serve_one_client<'p, 'a, R: Threads + Wait + time::Clock + Sync>(
-    rt: &'a R,
-    alloc: Global,
-    seen: &'a Seen,
-    reader: Waiting<'a, R>,
-    pen: &'p TestPen<'a, R>,
-) -> Result<Vec<TestLine<'p, 'a, R>>, Fail> {
-    let line = client_line(rt, alloc, seen, 1, HEARTBEAT.as_slice(), reader, pen);
-    served(rt, alloc, vec![in alloc; line]?)
+    Ok(lines.push(line_of(rt, client, links, reader, pen))?)
 }
 
 /// The pen of a client that is told a heartbeat, which sets `is_taken` as it is taken.
@@ -176,28 +141,78 @@ fn told_pen<'a, R: time::Clock>(
     seen: &'a Seen,
     is_taken: &'a AtomicBool,
 ) -> Result<TestPen<'a, R>, Fail> {
-    Ok(Pen::new(writing_gate(rt, alloc, seen, heartbeat(alloc)?, is_taken)?))
+    let mut gate = gate_of(rt, alloc, seen, 0, &seen.never, is_taken);
+    gate.kept.lay(1, HEARTBEAT.as_slice())?;
+    Ok(Pen::new(gate))
+}
+
+/// A logon without a header, as a frame, and a heartbeat behind it.
+const LOGON_AND_HEARTBEAT: &[u8; 52] =
+    b"8=FIX.4.4\x019=5\x0135=A\x0110=180\x018=FIX.4.4\x019=5\x0135=0\x0110=163\x01";
+
+/// Which put of the first of two clients waits, from 1, and which of the second; 0 is none. The first waits for what
+/// the second is told, or for what it is told itself; the second for what the first is told.
+#[derive(Clone, Copy)]
+struct Waits {
+    first: u32,
+    is_for_itself: bool,
+    second: u32,
 }
 
 #[test]
 fn a_client_waits_for_what_another_is_told(rt: HostRuntime) -> Result<(), Fail> {
-    for is_first in [true, false] {
+    for (first, second) in [(1, 0), (0, 1)] {
         let seen = Seen::new();
-        waits_for_another(&rt, rt.alloc(), &seen, is_first)?;
+        let waits = Waits {
+            first,
+            is_for_itself: false,
+            second,
+        };
+        two_clients(&rt, rt.alloc(), &seen, waits, HEARTBEAT.as_slice(), 3)?;
+        look_at_flags(&rt, &seen);
     }
     Ok(())
 }
 
-/// Two clients, of which the first, or the second, waits for what the other is told.
-fn waits_for_another<'a, R: Threads + Wait + time::Clock + Abort + Sync>(
+#[test]
+fn a_client_waits_for_what_it_is_told_itself(rt: HostRuntime) -> Result<(), Fail> {
+    let seen = Seen::new();
+    let waits = Waits {
+        first: 4,
+        is_for_itself: true,
+        second: 0,
+    };
+    two_clients(
+        &rt,
+        rt.alloc(),
+        &seen,
+        waits,
+        LOGON_AND_HEARTBEAT.as_slice(),
+        4,
+    )?;
+    look_at_flags(&rt, &seen);
+    Ok(())
+}
+
+/// Nobody waited in vain, and both clients' bytes went through.
+fn look_at_flags<R: Abort>(rt: &R, seen: &Seen) {
+    holds(rt, !seen.is_failed.load(Ordering::SeqCst));
+    holds(rt, seen.bytes.load(Ordering::SeqCst) == 52);
+}
+
+/// Two clients, each of which is told a heartbeat; the link of the first brings these bytes, which are so many events
+/// with its beginning and its end.
+fn two_clients<'a, R: Threads + Wait + time::Clock + Abort + Sync>(
     rt: &'a R,
     alloc: Global,
     seen: &'a Seen,
-    is_first: bool,
+    waits: Waits,
+    stream: &'a [u8],
+    events: usize,
 ) -> Result<(), Fail> {
     let one = told_pen(rt, alloc, seen, &seen.first)?;
     let two = told_pen(rt, alloc, seen, &seen.second)?;
-    serve_both(rt, alloc, seen, is_first, &one, &two)?;
+    serve_both(rt, alloc, seen, waits, stream, events, &one, &two)?;
     gave_one_list(rt, one)?;
     gave_one_list(rt, two)
 }
@@ -206,17 +221,33 @@ fn serve_both<'p, 'a, R: Threads + Wait + time::Clock + Abort + Sync>(
     rt: &'a R,
     alloc: Global,
     seen: &'a Seen,
-    is_first: bool,
+    waits: Waits,
+    stream: &'a [u8],
+    events: usize,
     one: &'p TestPen<'a, R>,
     two: &'p TestPen<'a, R>,
 ) -> Result<(), Fail> {
-    let stream = HEARTBEAT.as_slice();
-    let reader = reading_gate(rt, alloc, seen, u32::from(is_first), &seen.second);
-    let one = client_line(rt, alloc, seen, 1, stream, reader, one);
-    let reader = reading_gate(rt, alloc, seen, u32::from(!is_first), &seen.first);
-    let two = client_line(rt, alloc, seen, 2, stream, reader, two);
-    let lines = served(rt, alloc, vec![in alloc; one, two]?)?;
-    look_at_both(rt, lines.as_slice(), seen)
+    let goes_on = if waits.is_for_itself {
+        &seen.first
+    } else {
+        &seen.second
+    };
+    let mut lines = Vec::new(alloc);
+    let reader = reading_gate(rt, alloc, seen, waits.first, goes_on);
+    push_client(rt, alloc, seen, &mut lines, 1, stream, reader, one)?;
+    let reader = reading_gate(rt, alloc, seen, waits.second, &seen.first);
+    push_client(
+        rt,
+        alloc,
+        seen,
+        &mut lines,
+        2,
+        HEARTBEAT.as_slice(),
+        reader,
+        two,
+    )?;
+    let lines = served(rt, alloc, lines)?;
+    look_at_both(rt, lines.as_slice(), events)
 }
 
 /// One list was taken by this pen.
@@ -224,95 +255,49 @@ fn gave_one_list<'a, R: time::Clock + Abort>(rt: &R, pen: TestPen<'a, R>) -> Res
     let Ok(gate) = pen.into_gate() else {
         return Err(Fail::new("a link is open"));
     };
-    assert!(rt; gate.kept.given.len() == 1);
+    holds(rt, gate.kept.given.len() == 1);
     Ok(())
 }
 
 /// So many events were put of a line.
 fn kept<'p, 'a, R: Abort + time::Clock>(rt: &'a R, line: &TestLine<'p, 'a, R>, events: usize) {
-    assert!(rt; line.reader.gate.kept.events.len() == events);
+    holds(rt, line.reader.gate.kept.events.len() == events);
 }
 
-/// Nobody waited in vain, and each client's events and bytes went through.
+/// Each client's events went through: so many of the first, and three of the second.
 fn look_at_both<'p, 'a, R: Abort + time::Clock>(
     rt: &'a R,
     lines: &[TestLine<'p, 'a, R>],
-    seen: &Seen,
+    events: usize,
 ) -> Result<(), Fail> {
-    assert!(rt; !seen.is_failed.load(Ordering::SeqCst));
-    for line in lines {
-        assert!(rt; line.fault.is_none());
-        kept(rt, line, 3);
-    }
-    assert!(rt; seen.bytes.load(Ordering::SeqCst) == 52);
-    Ok(())
-}
-
-/// A logon without a header, as a frame, and a heartbeat behind it.
-const LOGON_AND_HEARTBEAT: &[u8; 52] =
-    b"8=FIX.4.4\x019=5\x0135=A\x0110=180\x018=FIX.4.4\x019=5\x0135=0\x0110=163\x01";
-
-#[test]
-fn a_client_waits_for_what_it_is_told_itself(rt: HostRuntime) -> Result<(), Fail> {
-    let seen = Seen::new();
-    waits_for_itself(&rt, rt.alloc(), &seen)
-}
-
-fn waits_for_itself<'a, R: Threads + Wait + time::Clock + Abort + Sync>(
-    rt: &'a R,
-    alloc: Global,
-    seen: &'a Seen,
-) -> Result<(), Fail> {
-    let one = told_pen(rt, alloc, seen, &seen.first)?;
-    let two = told_pen(rt, alloc, seen, &seen.never)?;
-    serve_itself(rt, alloc, seen, &one, &two)
-}
-
-fn serve_itself<'p, 'a, R: Threads + Wait + time::Clock + Abort + Sync>(
-    rt: &'a R,
-    alloc: Global,
-    seen: &'a Seen,
-    one: &'p TestPen<'a, R>,
-    two: &'p TestPen<'a, R>,
-) -> Result<(), Fail> {
-    let reader = reading_gate(rt, alloc, seen, 4, &seen.first);
-    let one = client_line(
-        rt,
-        alloc,
-        seen,
-        1,
-        LOGON_AND_HEARTBEAT.as_slice(),
-        reader,
-        one,
-    );
-    let reader = reading_gate(rt, alloc, seen, 0, &seen.never);
-    let two = client_line(rt, alloc, seen, 2, HEARTBEAT.as_slice(), reader, two);
-    let lines = served(rt, alloc, vec![in alloc; one, two]?)?;
-    look_at_own(rt, lines.as_slice(), seen)
-}
-
-/// The first client didn't wait in vain.
-fn look_at_own<'p, 'a, R: Abort + time::Clock>(
-    rt: &'a R,
-    lines: &[TestLine<'p, 'a, R>],
-    seen: &Seen,
-) -> Result<(), Fail> {
-    assert!(rt; !seen.is_failed.load(Ordering::SeqCst));
     let [one, two] = lines else {
         return Err(Fail::new("not two lines"));
     };
-    assert!(rt; one.peer == Recipient::Client(ClientNumber::new(1)));
-    assert!(rt; two.peer == Recipient::Client(ClientNumber::new(2)));
-    kept(rt, one, 4);
+    is_of(rt, one, 1);
+    kept(rt, one, events);
+    is_of(rt, two, 2);
     kept(rt, two, 3);
     Ok(())
+}
+
+/// A line is this client's, and none of its links failed to open.
+fn is_of<'p, 'a, R: Abort + time::Clock>(rt: &'a R, line: &TestLine<'p, 'a, R>, client: u16)
+    requires { 1 ≤ client }
+{
+    holds(
+        rt,
+        line.peer == Recipient::Client(ClientNumber::new(client)),
+    );
+    holds(rt, line.fault.is_none());
 }
 
 /// While a client's link is served time passes: its put waits until ticks went round three times.
 #[test]
 fn time_passes_while_a_link_is_served(rt: HostRuntime) -> Result<(), Fail> {
     let seen = Seen::new();
-    passes_meanwhile(&rt, rt.alloc(), &seen)
+    passes_meanwhile(&rt, rt.alloc(), &seen)?;
+    holds(&rt, !seen.is_failed.load(Ordering::SeqCst));
+    Ok(())
 }
 
 fn passes_meanwhile<'a, R: Threads + Wait + time::Clock + Abort + Sync>(
@@ -346,26 +331,33 @@ fn serve_with_ticks<'p, 'a, R: Threads + Wait + time::Clock + Abort + Sync>(
     pen: &'p TestPen<'a, R>,
 ) -> Result<(), Fail> {
     let reader = reading_gate(rt, alloc, seen, 1, &seen.second);
-    let line = client_line(rt, alloc, seen, 1, HEARTBEAT.as_slice(), reader, pen);
-    let ticks = three_rounds(rt, alloc, seen);
-    match serve(rt, alloc, vec![in alloc; line]?, ticks) {
-        Ok((lines, ticks)) => look_at_ticks(rt, lines.as_slice(), ticks, seen),
+    let mut lines = Vec::new(alloc);
+    push_client(
+        rt,
+        alloc,
+        seen,
+        &mut lines,
+        1,
+        HEARTBEAT.as_slice(),
+        reader,
+        pen,
+    )?;
+    match serve(rt, alloc, lines, three_rounds(rt, alloc, seen)) {
+        Ok((lines, ticks)) => look_at_ticks(rt, lines.as_slice(), ticks),
         Err(_) => Err(Fail::new("not served")),
     }
 }
 
-/// Nobody waited in vain, three ticks of each client and port were put, and all events of the link.
+/// Three ticks of each client and port were put, and all events of the link.
 fn look_at_ticks<'p, 'a, R: Abort + time::Clock>(
     rt: &'a R,
     lines: &[TestLine<'p, 'a, R>],
     ticks: Option<Ticks<'a, Waiting<'a, R>, Sleeping<'a, R>>>,
-    seen: &Seen,
 ) -> Result<(), Fail> {
-    assert!(rt; !seen.is_failed.load(Ordering::SeqCst));
     let Some(ticks) = ticks else {
         return Err(Fail::new("no ticks came back"));
     };
-    assert!(rt; ticks.gate.kept.events.len() == 9);
+    holds(rt, ticks.gate.kept.events.len() == 9);
     let [line] = lines else {
         return Err(Fail::new("not one line"));
     };
@@ -395,10 +387,9 @@ fn three_links<'a, R: Threads + Wait + time::Clock + Abort + Sync>(
     alloc: Global,
     seen: &'a Seen,
 ) -> Result<(), Fail> {
-    let writer = writing_gate(rt, alloc, seen, LinkOut::Close { link: 2 }, &seen.never)?;
-    let pen = Pen::new(writer);
+    let pen = closing_pen(rt, alloc, seen, 2, 0)?;
     serve_three(rt, alloc, seen, &pen)?;
-    assert!(rt; seen.woken.load(Ordering::SeqCst) == 3);
+    holds(rt, seen.woken.load(Ordering::SeqCst) == 3);
     Ok(())
 }
 
@@ -411,8 +402,9 @@ fn serve_three<'p, 'a, R: Threads + Wait + time::Clock + Abort + Sync>(
     let reader = reading_gate(rt, alloc, seen, 0, &seen.never);
     let links = links_of(alloc, b"\x00\x01H\x00\x01H".as_slice(), 3, 2, seen);
     let port = Recipient::Port(PortNumber::new(1));
-    let line = line_of(rt, port, links, reader, pen);
-    let lines = served(rt, alloc, vec![in alloc; line]?)?;
+    let mut lines = Vec::new(alloc);
+    lines.push(line_of(rt, port, links, reader, pen))?;
+    let lines = served(rt, alloc, lines)?;
     look_at_three(rt, alloc, lines.as_slice())
 }
 
@@ -425,11 +417,11 @@ fn look_at_three<'p, 'a, R: Abort + time::Clock>(
     let [line] = lines else {
         return Err(Fail::new("not one line"));
     };
-    assert!(rt; line.fault == Some(LinkFault::ReadFailed));
+    holds(rt, line.fault == Some(LinkFault::ReadFailed));
     kept(rt, line, 12);
-    assert!(rt; line.opener.ends.len() == 3);
+    holds(rt, line.opener.ends.len() == 3);
     for end in &line.opener.ends {
-        assert!(rt; end.reader.is_ok() && end.fault().is_none());
+        holds(rt, end.reader.is_ok() && end.fault().is_none());
     }
     are_three_up(rt, alloc, line.reader.gate.kept.events.as_slice())
 }
@@ -437,68 +429,72 @@ fn look_at_three<'p, 'a, R: Abort + time::Clock>(
 /// Links 1, 2 and 3 were up.
 fn are_three_up<R: Abort>(rt: &R, alloc: Global, events: &[Event]) -> Result<(), Fail> {
     let ups = links_up(alloc, events)?;
-    assert!(rt; matches!(ups.as_slice(), [1, 2, 3]));
+    holds(rt, matches!(ups.as_slice(), [1, 2, 3]));
     Ok(())
+}
+
+/// The pen of a line whose link of this number is closed, and whose link 1 is told so many heartbeats more. As the last
+/// list is taken the first flag is set.
+fn closing_pen<'a, R: time::Clock>(
+    rt: &'a R,
+    alloc: Global,
+    seen: &'a Seen,
+    link: u64,
+    late: u32,
+) -> Result<TestPen<'a, R>, Fail> {
+    let mut gate = gate_of(rt, alloc, seen, 0, &seen.never, &seen.first);
+    lay_close(&mut gate.kept, link, late)?;
+    Ok(Pen::new(gate))
+}
+
+/// Lays a list with a `Close` of a link, and so many heartbeats for link 1 behind.
+fn lay_close(kept: &mut Kept, link: u64, late: u32) -> Result<(), AllocError>
+    ensures { kept.new.given ≡ kept.old.given }
+{
+    for _ in 0..late {
+        kept.lay(1, HEARTBEAT.as_slice())?;
+    }
+    Ok(kept.lists.push(ShortList::of(LinkOut::Close { link }))?)
 }
 
 #[test]
 fn a_closed_link_is_shut_down(rt: HostRuntime) -> Result<(), Fail> {
     let seen = Seen::new();
-    closed_link(&rt, rt.alloc(), &seen)
-}
-
-fn closed_link<'a, R: Threads + Wait + time::Clock + Abort + Sync>(
-    rt: &'a R,
-    alloc: Global,
-    seen: &'a Seen,
-) -> Result<(), Fail> {
-    let writer = writing_gate(rt, alloc, seen, LinkOut::Close { link: 1 }, &seen.never)?;
-    let pen = Pen::new(writer);
-    serve_closed(rt, alloc, seen, 0, &pen)
+    serve_closed(&rt, rt.alloc(), &seen, 0, 0)?;
+    is_shut_unwritten(&rt, &seen);
+    Ok(())
 }
 
 /// A client's link is closed, and it is told two heartbeats more. It isn't gone before the last one is taken.
 #[test]
 fn what_a_link_that_is_over_is_told_is_let_go(rt: HostRuntime) -> Result<(), Fail> {
     let seen = Seen::new();
-    told_too_late(&rt, rt.alloc(), &seen)
-}
-
-/// A writer's gate with a `Close` of the first link, and two heartbeats for it behind.
-fn gate_of_late_lists<'a, R>(
-    rt: &'a R,
-    alloc: Global,
-    seen: &'a Seen,
-) -> Result<Waiting<'a, R>, AllocError>
-    ensures { IfOk result (λ gate. gate.kept.given.items ≡ []) }
-{
-    let mut writer = writing_gate(rt, alloc, seen, heartbeat(alloc)?, &seen.first)?;
-    lay_heartbeat_and_close(alloc, &mut writer.kept)?;
-    Ok(writer)
-}
-
-fn lay_heartbeat_and_close(alloc: Global, kept: &mut Kept) -> Result<(), AllocError>
-    ensures { kept.new.given ≡ kept.old.given }
-{
-    kept.lay(1, HEARTBEAT.as_slice())?;
-    let closing = ShortList::of(LinkOut::Close { link: 1 });
-    Ok(kept.lists.push(closing)?)
-}
-
-fn told_too_late<'a, R: Threads + Wait + time::Clock + Abort + Sync>(
-    rt: &'a R,
-    alloc: Global,
-    seen: &'a Seen,
-) -> Result<(), Fail> {
-    let pen = Pen::new(gate_of_late_lists(rt, alloc, seen)?);
-    serve_closed(rt, alloc, seen, 3, &pen)?;
-    assert!(rt; !seen.is_failed.load(Ordering::SeqCst));
-    assert!(rt; seen.bytes.load(Ordering::SeqCst) == 0);
+    serve_closed(&rt, rt.alloc(), &seen, 2, 3)?;
+    is_shut_unwritten(&rt, &seen);
     Ok(())
 }
 
-/// Serves a client's one link, which is closed, through a gate whose put of this number waits for the first flag.
-fn serve_closed<'p, 'a, R: Threads + Wait + time::Clock + Abort + Sync>(
+/// The link was shut down once, nothing was written onto it, and nobody waited in vain.
+fn is_shut_unwritten<R: Abort>(rt: &R, seen: &Seen) {
+    holds(rt, seen.often.load(Ordering::SeqCst) == 1);
+    holds(rt, seen.bytes.load(Ordering::SeqCst) == 0);
+    holds(rt, !seen.is_failed.load(Ordering::SeqCst));
+}
+
+/// Serves a client's one link, which is closed, and is told so many heartbeats more, through a gate whose put of this
+/// number waits until the last of them is taken.
+fn serve_closed<'a, R: Threads + Wait + time::Clock + Abort + Sync>(
+    rt: &'a R,
+    alloc: Global,
+    seen: &'a Seen,
+    late: u32,
+    waits_at: u32,
+) -> Result<(), Fail> {
+    let pen = closing_pen(rt, alloc, seen, 1, late)?;
+    serve_one(rt, alloc, seen, waits_at, &pen)
+}
+
+fn serve_one<'p, 'a, R: Threads + Wait + time::Clock + Abort + Sync>(
     rt: &'a R,
     alloc: Global,
     seen: &'a Seen,
@@ -506,15 +502,25 @@ fn serve_closed<'p, 'a, R: Threads + Wait + time::Clock + Abort + Sync>(
     pen: &'p TestPen<'a, R>,
 ) -> Result<(), Fail> {
     let reader = reading_gate(rt, alloc, seen, waits_at, &seen.first);
-    let lines = serve_one_client(rt, alloc, seen, reader, pen)?;
-    look_at_closed(rt, lines.as_slice(), seen)
+    let mut lines = Vec::new(alloc);
+    push_client(
+        rt,
+        alloc,
+        seen,
+        &mut lines,
+        1,
+        HEARTBEAT.as_slice(),
+        reader,
+        pen,
+    )?;
+    let lines = served(rt, alloc, lines)?;
+    look_at_closed(rt, lines.as_slice())
 }
 
-/// The one link was closed, and shut down once.
+/// The one link was closed by the core.
 fn look_at_closed<'p, 'a, R: Abort + time::Clock>(
     rt: &'a R,
     lines: &[TestLine<'p, 'a, R>],
-    seen: &Seen,
 ) -> Result<(), Fail> {
     let [line] = lines else {
         return Err(Fail::new("not one line"));
@@ -522,7 +528,6 @@ fn look_at_closed<'p, 'a, R: Abort + time::Clock>(
     let [end] = line.opener.ends.as_slice() else {
         return Err(Fail::new("not one end"));
     };
-    assert!(rt; end.writer == Ok(WriterEnd::Closed));
-    assert!(rt; seen.often.load(Ordering::SeqCst) == 1);
+    holds(rt, end.writer == Ok(WriterEnd::Closed));
     Ok(())
 }

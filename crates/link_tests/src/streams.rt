@@ -1,7 +1,14 @@
 //! Readers and writers that fail.
 
 use link_io::Prompt;
+use std::alloc::Global;
 use std::io::{self, ErrorKind, Read, Write};
+use std::process::Abort;
+
+/// This is so. It has the one assertion of most of these tests.
+pub fn holds<R: Abort>(rt: &R, is_so: bool) {
+    assert!(rt; is_so);
+}
 
 /// A reader that gives so many bytes a read of what it has, and fails at its read of this number, from 0.
 #[derive(Drop)]
@@ -52,6 +59,17 @@ pub struct Torn {
     pub taken: Vec<u8>,
     pub size: usize,
     pub writes_left: usize,
+}
+
+impl Torn {
+    /// One that has taken nothing.
+    pub fn new(alloc: Global, size: usize, writes_left: usize) -> Torn {
+        Torn {
+            taken: Vec::new(alloc),
+            size,
+            writes_left,
+        }
+    }
 }
 
 impl Write for Torn {

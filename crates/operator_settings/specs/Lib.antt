@@ -1,0 +1,4 @@
+pub mod Judged
+pub mod Ranges
+pub mod Rules
+pub mod Said

@@ -1,48 +1,90 @@
 //! `[control]`.
 
+ghost use Rattle.std.specs.Prelude.{◌≡◌, IfOk, option_map, string_bytes};
+ghost use Rattle.toml.specs.View.{view};
+ghost use Rattle.operator_settings.specs.Judged.{Judges};
+ghost use Rattle.operator_settings.specs.Rules as rules;
+ghost use Rattle.operator_settings.specs.Said.{IsControlOf};
+
 use crate::fault::{OperatorFault, refused};
-use crate::keys::{is_address, other_key};
+use crate::keys::first_other;
+use crate::settings::ControlSettings;
+use crate::texts::{address_of, is_of_this_machine, token_of};
 use std::alloc::{AllocError, Global};
 use toml::Value;
-
-/// Where the control endpoint listens, and who may use it.
-#[derive(Drop)]
-pub struct ControlSettings {
-    /// A host and a TCP port.
-    pub listen: String,
-    /// What each request has to give, where it is set: 16 to 64 characters.
-    pub token: Option<String>,
-    /// A further name under which a browser may call it, a host and a TCP port.
-    pub host: Option<String>,
-}
 
 /// Reads `[control]`: `listen`, `token`, `host`. Refused by the first of its keys, in this order, that is missing or
 /// wrong, and then by any other key. Without a token only an address of this machine itself may be listened at: then
 /// `token` is missing.
-pub(crate) fn read_control(alloc: Global, table: &Value) -> Result<ControlSettings, OperatorFault> {
-    let Some(listen) = address_at(table, "listen") else {
+pub(crate) fn read_control(alloc: Global, table: &Value) -> Result<ControlSettings, OperatorFault>
+    ensures judged { Judges (rules.refused_control (view table.now)) result }
+    ensures said { IfOk result (λ c. IsControlOf (view table.now) c) }
+{
+    let Some(listen) = address_in(table.get("listen")) else {
         return Err(refused(alloc, "control", "listen"));
     };
-    let token = match table.get("token") {
-        Some(value) => match token_of(value) {
-            Some(token) => Some(token),
-            None => return Err(refused(alloc, "control", "token")),
-        },
-        None => None,
-    };
-    if token.is_none() && !is_of_this_machine(listen) {
+    let Some(token) = token_for(listen, table.get("token")) else {
         return Err(refused(alloc, "control", "token"));
-    }
-    let host = match table.get("host") {
-        Some(_) => match address_at(table, "host") {
-            Some(host) => Some(host),
-            None => return Err(refused(alloc, "control", "host")),
-        },
-        None => None,
     };
-    if let Some(key) = other_key(table, &["listen", "token", "host"]) {
+    let Some(host) = host_in(table.get("host")) else {
+        return Err(refused(alloc, "control", "host"));
+    };
+    if let Some(key) = first_other(table, &["listen", "token", "host"]) {
         return Err(refused(alloc, "control", key));
     }
+    Ok(settings_of(alloc, listen, token, host)?)
+}
+
+/// An address that has to be there; `None` where it isn't.
+fn address_in<'a>(said: Option<&'a Value>) -> Option<&'a str>
+    ensures { option_map (λ s. s.now) result ≡ rules.text_in rules.is_address (option_map (λ v. view v.now) said.entry) }
+{
+    match said {
+        Some(value) => address_of(value),
+        None => None,
+    }
+}
+
+/// A token that has to be there unless this address is of this machine; `None` where it isn't, or isn't read.
+fn token_for<'a>(listen: &str, said: Option<&'a Value>) -> Option<Option<&'a str>>
+    ensures { option_map (option_map (λ s. s.now)) result
+        ≡ rules.token_for listen.now (option_map (λ v. view v.now) said.entry) }
+{
+    match said {
+        None if is_of_this_machine(listen) => Some(None),
+        None => None,
+        Some(value) => match token_of(value) {
+            Some(token) => Some(Some(token)),
+            None => None,
+        },
+    }
+}
+
+/// An address that needn't be there; `None` where it isn't read.
+fn host_in<'a>(said: Option<&'a Value>) -> Option<Option<&'a str>>
+    ensures { option_map (option_map (λ s. s.now)) result
+        ≡ rules.any_text_in rules.is_address (option_map (λ v. view v.now) said.entry) }
+{
+    match said {
+        None => Some(None),
+        Some(value) => match address_of(value) {
+            Some(host) => Some(Some(host)),
+            None => None,
+        },
+    }
+}
+
+/// Copies of these texts.
+fn settings_of(
+    alloc: Global,
+    listen: &str,
+    token: Option<&str>,
+    host: Option<&str>,
+) -> Result<ControlSettings, AllocError>
+    ensures listen { IfOk result (λ c. string_bytes c.listen ≡ listen.now) }
+    ensures token { IfOk result (λ c. option_map string_bytes c.token ≡ option_map (λ s. s.now) token.entry) }
+    ensures host { IfOk result (λ c. option_map string_bytes c.host ≡ option_map (λ s. s.now) host.entry) }
+{
     Ok(ControlSettings {
         listen: String::from_str(alloc, listen)?,
         token: copied(alloc, token)?,
@@ -51,36 +93,11 @@ pub(crate) fn read_control(alloc: Global, table: &Value) -> Result<ControlSettin
 }
 
 /// A copy of a text, where there is one.
-fn copied(alloc: Global, text: Option<&str>) -> Result<Option<String>, AllocError> {
+fn copied(alloc: Global, text: Option<&str>) -> Result<Option<String>, AllocError>
+    ensures { IfOk result (λ copy. option_map string_bytes copy ≡ option_map (λ s. s.now) text.entry) }
+{
     match text {
         Some(text) => Ok(Some(String::from_str(alloc, text)?)),
         None => Ok(None),
-    }
-}
-
-/// The address at a key.
-fn address_at<'a>(table: &'a Value, key: &str) -> Option<&'a str> {
-    match table.get(key)?.as_str() {
-        Some(text) if is_address(text) => Some(text),
-        _ => None,
-    }
-}
-
-/// A token: 16 to 64 characters that are seen.
-fn token_of(value: &Value) -> Option<&str> {
-    let text = value.as_str()?;
-    let count = text.len();
-    if 16 <= count && count <= 64 && text.bytes().all(|byte| byte.is_ascii_graphic()) {
-        Some(text)
-    } else {
-        None
-    }
-}
-
-/// Whether an address is of this machine itself: 127.0.0.1, ::1 or localhost.
-fn is_of_this_machine(address: &str) -> bool {
-    match address.rsplit_once(':') {
-        Some((host, _)) => host == "127.0.0.1" || host == "[::1]" || host == "localhost",
-        None => false,
     }
 }

@@ -1,34 +1,46 @@
 //! Keys of a table.
 
-use toml::Value;
+ghost use Rattle.std.specs.Prelude.{◌≡◌, map, option_map, not, find, bytes_eq, string_bytes};
+ghost use Rattle.std.specs.BTreeMap.{keys as keys_of_map};
+ghost use Rattle.std.specs.List.{list_any};
+ghost use Rattle.toml.specs.View.{table_view, view};
+ghost use Rattle.operator_settings.specs.Rules as rules;
+ghost use Rattle.operator_settings.specs.Rules.{member_keys};
+
+use toml::{Table, Value};
 
 /// The first key of a table, in byte order, that isn't one of these.
-pub(crate) fn other_key<'a>(table: &'a Value, keys: &[&str]) -> Option<&'a str> {
+pub(crate) fn first_other<'a>(table: &'a Value, keys: &[&str]) -> Option<&'a str>
+    ensures { option_map (λ s. s.now) result ≡ rules.first_other (map (λ s. s.now) keys.now) (view table.now) }
+{
     match table.as_table() {
-        Some(members) => match members.keys().find(|key| !is_one_of(key.as_str(), keys)) {
-            Some(key) => Some(key.as_str()),
-            None => None,
-        },
+        Some(table) => other_in(table, keys),
         None => None,
     }
 }
 
-fn is_one_of(key: &str, keys: &[&str]) -> bool {
-    keys.iter().any(|known| key == *known)
+/// The same of the map that a table is.
+fn other_in<'a>(table: &'a Table, keys: &[&str]) -> Option<&'a str>
+    ensures { option_map (λ s. s.now) result
+        ≡ find (λ key. not (list_any (bytes_eq key) (map (λ s. s.now) keys.now))) (member_keys (table_view table.now)) }
+{
+    match other_key(table, keys) {
+        Some(key) => Some(key.as_str()),
+        None => None,
+    }
 }
 
-/// Whether a text is a host, a colon and a TCP port, of at most 255 bytes that are seen.
-pub(crate) fn is_address(text: &str) -> bool {
-    let bytes = text.as_bytes();
-    if bytes.len() > 255 || !bytes.iter().all(|byte| byte.is_ascii_graphic()) {
-        return false;
-    }
-    match text.rsplit_once(':') {
-        Some((host, port)) => {
-            !host.is_empty()
-                && port.bytes().all(|byte| byte.is_ascii_digit())
-                && port.parse::<u16>().is_ok()
-        }
-        None => false,
-    }
+/// The same key, as the map has it.
+fn other_key<'a>(table: &'a Table, keys: &[&str]) -> Option<&'a String>
+    ensures { option_map (λ k. k.now) result
+        ≡ find (λ key. not (list_any (λ k. bytes_eq (string_bytes key) k.now) keys.now)) (keys_of_map table.now) }
+{
+    table.keys().find(|key| !is_one_of(key.as_str(), keys))
+}
+
+/// Whether this key is one of these.
+fn is_one_of(key: &str, keys: &[&str]) -> bool
+    ensures { result ≡ list_any (λ k. bytes_eq key.now k.now) keys.now }
+{
+    keys.iter().any(|known| key == *known)
 }

@@ -22,11 +22,12 @@ mod fault;
 mod keys;
 mod ranges;
 mod reading;
+mod settings;
+mod texts;
 mod time_of_day;
 
-pub use control::ControlSettings;
-pub use day::DaySettings;
 pub use fault::OperatorFault;
 pub use ranges::{AddressRange, admit};
 pub use reading::{OperatorSettings, read_operator};
+pub use settings::{ControlSettings, DaySettings};
 pub use time_of_day::next_at;

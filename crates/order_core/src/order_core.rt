@@ -98,6 +98,8 @@ impl<S: BuildHasher + Drop> OrderCore<S> {
     ghost use Rattle.std.specs.Prelude.{option_map, option_and_then};
     ghost use Rattle.outstanding.specs.order_law.History.{Entry, OrderHistory, Terms, accepted, outstanding};
     ghost use Rattle.outstanding.specs.order_law.Lawful.{order_of_token};
+    ghost use Rattle.outstanding.specs.order_law.Verdicts.{open_orders};
+    ghost use Rattle.outstanding.specs.order_law.History.{issued};
     ghost use Rattle.order_core.specs.Meets.{MeetsClient, MeetsPayload};
     ghost use Rattle.order_core.specs.State.{IsAfterTurns, IsCoreClient, CoreHasRoom};
     ghost use Rattle.order_core.specs.State.{CoreKeeps, core_put_back, core_settled};
@@ -190,6 +192,17 @@ impl<S: BuildHasher + Drop> OrderCore<S> {
             Some(token) => self.ledger.client_of_token(port, token),
             None => None,
         }
+    }
+
+    /// How many orders of a client aren't closed, as its reports have them. Takes no memory, and no time that grows with
+    /// orders.
+    ///
+    /// Source: FIX 4.4 Volume 4, "Execution Report" (LeavesQty, OrdStatus).
+    pub fn open_count(&self, client: u16) -> usize
+        ensures { (terms : List Terms) (before : OrderHistory) → NumbersLeft before
+            → IsAfterTurns terms before self.now → result ≡ open_orders (issued client before) }
+    {
+        self.ledger.open_count(client)
     }
 
     /// From now on the order level is put back to how it is now: to be called before each step of whatever it is part

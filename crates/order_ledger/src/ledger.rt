@@ -128,7 +128,7 @@ impl<S: BuildHasher + Drop> OrderLedger<S> {
     ghost use Rattle.new_orders.specs.order_law.History.{terms_of};
     ghost use Rattle.std.specs.Prelude.{option_map};
     ghost use Rattle.order_machine.specs.OrderRecord.{OrderRecord};
-    ghost use Rattle.order_machine.specs.Table.{record_by_token};
+    ghost use Rattle.order_machine.specs.Table.{open_count, record_by_token};
     ghost use Rattle.to_market.specs.PortsSeen.{port_seen};
     ghost use Rattle.to_market.specs.TermsSeen.{terms_seen};
     ghost use Rattle.order_ledger.specs.Meets.{MeetsMessage};
@@ -151,6 +151,13 @@ impl<S: BuildHasher + Drop> OrderLedger<S> {
             None => None,
             Some(order) => Some(order.client),
         }
+    }
+
+    /// How many orders of a client aren't closed. Takes no memory.
+    pub fn open_count(&self, client: u16) -> usize
+        ensures { result ≡ open_count self.now.now.orders client }
+    {
+        self.table.open_count(client)
     }
 
     /// Steps an application message of a client, whose port stands as given. The client is one of the terms'.

@@ -1,11 +1,12 @@
 //! A day of two clients on two ports, in which a client and a port each lose their link.
 
-use crate::threads::{ended, listening, log_on_and_buy};
+use crate::threads::{ended, listening, log_on_and_buy, settings_of};
 use gateway_demo::{Acceptor, Choice, Client, DemoFault, Market, Opened, Opener, Order, connected};
-use gateway_run::{Day, RunFault, SettingsFile, end_day, read, run_settings, tell};
+use gateway_run::{Day, RunFault, SettingsFile, end_day, run_settings, tell};
 use journal_audit::audit_file;
 use std::alloc::Global;
 use std::hash::RandomState;
+use std::io::{Read, Write};
 use std::net::{Net, TcpListener, TcpStream};
 use std::process::Abort;
 use std::sync::Wait;
@@ -62,9 +63,8 @@ fn come_again<R: Clock + Net<Listener = TcpListener, Stream = TcpStream>>(
 ) -> Result<(), DemoFault> {
     let mut client = Client::new(rt, alloc, "C1", reached(rt, address)?);
     log_on_and_buy(&mut client, &FIRST)?;
-    let mut client = client.over(reached(rt, address)?);
-    log_on_and_buy(&mut client, &SECOND)?;
-    client.log_out()
+    let stream = reached(rt, address)?;
+    buy_and_go(&mut client.over(stream), &SECOND)
 }
 
 /// Buys and goes, comes again and goes.
@@ -74,9 +74,22 @@ fn go_and_come<R: Clock + Net<Listener = TcpListener, Stream = TcpStream>>(
     address: &str,
 ) -> Result<(), DemoFault> {
     let mut client = Client::new(rt, alloc, "C2", reached(rt, address)?);
-    log_on_and_buy(&mut client, &THIRD)?;
-    client.log_out()?;
-    let mut client = client.over(reached(rt, address)?);
+    buy_and_go(&mut client, &THIRD)?;
+    let stream = reached(rt, address)?;
+    come_and_go(&mut client.over(stream))
+}
+
+fn buy_and_go<R: Clock, S: Read + Write + Drop>(
+    client: &mut Client<'_, R, S>,
+    order: &Order,
+) -> Result<(), DemoFault> {
+    log_on_and_buy(client, order)?;
+    client.log_out()
+}
+
+fn come_and_go<R: Clock, S: Read + Write + Drop>(
+    client: &mut Client<'_, R, S>,
+) -> Result<(), DemoFault> {
     client.log_on()?;
     client.log_out()
 }
@@ -141,10 +154,6 @@ fn set_up<R: Net<Listener = TcpListener, Stream = TcpStream>>(
     Ok(Setup { one, two, text })
 }
 
-fn settings(alloc: Global, text: &str) -> Result<SettingsFile, Fail> {
-    read(alloc, text.as_bytes()).map_err(|_| Fail::new("the settings are refused"))
-}
-
 /// An address where nobody listens any more.
 fn free_address<R: Net<Listener = TcpListener, Stream = TcpStream>>(
     rt: &R,
@@ -165,31 +174,61 @@ struct Written {
 #[test]
 fn a_client_and_a_port_lose_their_links(rt: HostRuntime) -> Result<(), Fail> {
     let alloc = rt.alloc();
-    let (first, first_address) = listening(&rt, alloc)?;
-    let (second, second_address) = listening(&rt, alloc)?;
-    let setup = set_up(&rt, alloc, &first_address, &second_address)?;
+    let hasher = RandomState::new(&rt)?;
     let mut written = Written {
         journal: Vec::new(alloc),
         output: Vec::new(alloc),
         faults: Vec::new(alloc),
     };
-    let hasher = RandomState::new(&rt)?;
-    let file = settings(alloc, &setup.text)?;
-    let markets = (first, second);
+    lose_links(&rt, alloc, hasher, &mut written)
+}
+
+/// Has both markets listen, and serves the day.
+fn lose_links<R>(
+    rt: &R,
+    alloc: Global,
+    hasher: RandomState,
+    written: &mut Written,
+) -> Result<(), Fail>
+where
+    R: Threads + Wait + Sync + Clock + Eprint + Abort,
+    R: Net<Listener = TcpListener, Stream = TcpStream>,
+{
+    let (first, first_address) = listening(rt, alloc)?;
+    let (second, second_address) = listening(rt, alloc)?;
+    let setup = set_up(rt, alloc, &first_address, &second_address)?;
     let is_past = AtomicBool::new(false);
-    let ended = serve_day(
-        &rt,
+    serves(
+        rt,
         alloc,
         hasher,
-        file,
-        markets,
+        (first, second),
         &setup,
         &is_past,
-        &mut written,
-    );
+        written,
+    )?;
+    audits_again(rt, alloc, &setup, written)
+}
+
+/// The day ends well, and prints the audit.
+fn serves<R>(
+    rt: &R,
+    alloc: Global,
+    hasher: RandomState,
+    markets: (TcpListener, TcpListener),
+    setup: &Setup,
+    is_past: &AtomicBool,
+    written: &mut Written,
+) -> Result<(), Fail>
+where
+    R: Threads + Wait + Sync + Clock + Eprint + Abort,
+    R: Net<Listener = TcpListener, Stream = TcpStream>,
+{
+    let file = settings_of(alloc, setup.text.as_bytes())?;
+    let ended = serve_day(rt, alloc, hasher, file, markets, setup, is_past, written);
     assert!(rt; ended == (0, Ok(())));
     assert!(rt; written.output.as_slice() == AUDIT);
-    audits_again(&rt, alloc, &setup, &mut written)
+    Ok(())
 }
 
 /// The journal of the day is audited as the day was, and nothing was told.
@@ -199,11 +238,12 @@ fn audits_again(
     setup: &Setup,
     written: &mut Written,
 ) -> Result<(), Fail> {
-    let SettingsFile { settings, .. } = settings(alloc, &setup.text)?;
+    let SettingsFile { settings, .. } = settings_of(alloc, setup.text.as_bytes())?;
     let mut again = Vec::new(alloc);
     let journal = written.journal.as_slice();
     let status = audit_file(alloc, journal, &settings, &mut again, &mut written.faults);
-    assert!(rt; status == 0 && again.as_slice() == AUDIT);
+    assert!(rt; status == 0);
+    assert!(rt; again.as_slice() == AUDIT);
     assert!(rt; written.faults.is_empty());
     Ok(())
 }
@@ -229,7 +269,11 @@ where
         let second = scope.spawn(move || serve_twice(rt, alloc, second, u32::MAX, is_past));
         let one = scope.spawn(move || come_again(rt, alloc, one));
         let two = scope.spawn(move || go_and_come(rt, alloc, two));
-        let status = write_day(alloc, run_settings(rt, alloc, hasher, file, 2), written);
+        let status = write_day(
+            alloc,
+            run_settings(rt, alloc, hasher, file, 2, None),
+            written,
+        );
         is_past.store(true, Ordering::SeqCst);
         let markets = ended(rt, first).and(ended(rt, second));
         (status, markets.and(ended(rt, one)).and(ended(rt, two)))
@@ -244,7 +288,10 @@ fn write_day(alloc: Global, ran: Result<Day, RunFault>, written: &mut Written) -
         faults,
     } = written;
     match ran {
-        Ok(day) => end_day(alloc, &day, journal, output, faults),
+        Ok(day) => match journal_file::write_day(day.history(), journal) {
+            Ok(()) => end_day(alloc, &day, journal.as_slice(), output, faults),
+            Err(_) => 1,
+        },
         Err(fault) => tell(fault, faults),
     }
 }

@@ -1,11 +1,11 @@
 //! As many clients and ports as there may be.
 
-use crate::threads::ended;
+use crate::threads::{day_of, ended, settings_of, wait_for};
 use gateway_demo::{Acceptor, Client, Connector, DemoFault, Opener, connected, loopback};
-use gateway_run::{Day, LinkRules, RunFault, RunPlan, SettingsFile, audit_day, read, run};
+use gateway_run::{Day, LinkRules, RunPlan, SettingsFile, audit_day, run};
 use std::alloc::{AllocError, Global};
 use std::hash::RandomState;
-use std::io::Write;
+use std::io::{Read, Write};
 use std::net::{Net, TcpListener, TcpStream};
 use std::process::Abort;
 use std::sync::Wait;
@@ -56,7 +56,12 @@ fn come_and_go<R: Clock + Net<Listener = TcpListener, Stream = TcpStream>>(
     for (name, address) in NAMES.into_iter().zip(addresses) {
         clients.push(logged_on(rt, alloc, name, address)?)?;
     }
-    for client in &mut clients {
+    go(clients.as_mut_slice())
+}
+
+/// Clients log out, one after the other.
+fn go<R: Clock, S: Read + Write + Drop>(clients: &mut [Client<'_, R, S>]) -> Result<(), DemoFault> {
+    for client in clients {
         client.log_out()?;
     }
     Ok(())
@@ -88,12 +93,7 @@ fn accept_all<R: Clock + Net<Listener = TcpListener, Stream = TcpStream>>(
             links.push(link.map_err(DemoFault::Link)?)?;
         }
     }
-    for _ in 0..u64::MAX {
-        if is_past.load(Ordering::SeqCst) {
-            break;
-        }
-        thread::sleep(rt, Duration::from_millis(10));
-    }
+    wait_for(rt, is_past, u64::MAX);
     Ok(())
 }
 
@@ -163,10 +163,10 @@ fn plan_of<'a, R>(
 
 /// Settings of all clients, as they are read.
 fn all_settings(alloc: Global) -> Result<SettingsFile, Fail> {
-    let Ok(text) = settings(alloc) else {
-        return Err(Fail::new("no memory"));
-    };
-    read(alloc, text.as_slice()).map_err(|_| Fail::new("the settings are refused"))
+    match settings(alloc) {
+        Ok(text) => settings_of(alloc, text.as_slice()),
+        Err(_) => Err(Fail::new("no memory")),
+    }
 }
 
 /// So many listeners with their addresses; where they can't be had the test fails.
@@ -183,19 +183,29 @@ fn listening_at<R: Net<Listener = TcpListener, Stream = TcpStream>>(
 
 #[test]
 fn all_clients_on_all_ports_come_and_go(rt: HostRuntime) -> Result<(), Fail> {
-    let alloc = rt.alloc();
-    let rt = &rt;
+    let hasher = RandomState::new(&rt)?;
+    let is_over = AtomicBool::new(false);
+    listen_and_serve(&rt, rt.alloc(), hasher, &is_over)
+}
+
+/// Has clients and markets listen, and serves their day.
+fn listen_and_serve<R>(
+    rt: &R,
+    alloc: Global,
+    hasher: RandomState,
+    is_over: &AtomicBool,
+) -> Result<(), Fail>
+where
+    R: Threads + Wait + Sync + Clock + Eprint + Abort,
+    R: Net<Listener = TcpListener, Stream = TcpStream>,
+{
     let (clients, addresses) = listening_at(rt, alloc, NAMES.len())?;
     let (listeners, market_addresses) = listening_at(rt, alloc, PORTS)?;
     // moved out of its pair before the other half is lent
     let markets = listeners;
-    let is_over = AtomicBool::new(false);
-    let is_over = &is_over;
-    let market_addresses = market_addresses.as_slice();
-    let plan = plan_of(rt, alloc, clients, market_addresses, is_over)?;
-    let hasher = RandomState::new(rt)?;
-    let is_past = AtomicBool::new(false);
+    let plan = plan_of(rt, alloc, clients, market_addresses.as_slice(), is_over)?;
     let addresses = addresses.as_slice();
+    let is_past = AtomicBool::new(false);
     serve_all(
         rt, alloc, hasher, plan, markets, addresses, is_over, &is_past,
     )
@@ -225,15 +235,8 @@ where
         (ran, ended(rt, markets).and(ended(rt, clients)))
     });
     assert!(rt; ended == Ok(()));
-    look_at_end(rt, alloc, ran)
-}
-
-/// The gateway ran to its end.
-fn look_at_end(rt: &impl Abort, alloc: Global, ran: Result<Day, RunFault>) -> Result<(), Fail> {
-    match ran {
-        Ok(day) => Ok(look_at(rt, alloc, &day)),
-        Err(_) => Err(Fail::new("the gateway did not run to its end")),
-    }
+    look_at(rt, alloc, &day_of(ran)?);
+    Ok(())
 }
 
 /// There was no order, and no fault.

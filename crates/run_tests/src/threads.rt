@@ -1,12 +1,15 @@
 //! Threads of a test's clients and markets, and what stands at both ends.
 
 use gateway_demo::{Client, DemoFault, Order, loopback};
+use gateway_run::{Day, RunFault, SettingsFile, read};
 use std::alloc::Global;
 use std::io::{Read, Write};
 use std::net::{Net, TcpListener, TcpStream};
+use std::sync::atomic::{AtomicBool, Ordering};
 use std::test::Fail;
+use std::thread;
 use std::thread::{JoinHandle, SpawnError, Threads};
-use std::time::Clock;
+use std::time::{Clock, Duration};
 
 /// How a thread ended, or that it couldn't be had.
 pub fn ended<R: Threads, F: Drop>(
@@ -16,6 +19,32 @@ pub fn ended<R: Threads, F: Drop>(
     match thread {
         Ok(thread) => thread.join(rt),
         Err(_) => Err(DemoFault::NoThread),
+    }
+}
+
+/// Waits until a flag is set, ten milliseconds so often at most.
+pub fn wait_for<R: Clock>(rt: &R, flag: &AtomicBool, most: u64) {
+    for _ in 0..most {
+        if flag.load(Ordering::SeqCst) {
+            return;
+        }
+        thread::sleep(rt, Duration::from_millis(10));
+    }
+}
+
+/// The settings of a text.
+pub fn settings_of(alloc: Global, text: &[u8]) -> Result<SettingsFile, Fail> {
+    match read(alloc, text) {
+        Ok(file) => Ok(file),
+        Err(_) => Err(Fail::new("the settings are refused")),
+    }
+}
+
+/// The day of a gateway that ran to its end.
+pub fn day_of(ran: Result<Day, RunFault>) -> Result<Day, Fail> {
+    match ran {
+        Ok(day) => Ok(day),
+        Err(_) => Err(Fail::new("the gateway did not run to its end")),
     }
 }
 

@@ -1,12 +1,10 @@
 //! A market that says what is no message.
 
-use crate::threads::{ended, listening, log_on_and_buy};
+use crate::threads::{day_of, ended, listening, log_on_and_buy, settings_of, wait_for};
 use gateway_demo::{
     Acceptor, Choice, Client, Connector, DemoFault, Market, Opened, Opener, Order, connected,
 };
-use gateway_run::{
-    Day, LinkRules, PortFault, PortNumber, RunFault, RunPlan, SettingsFile, audit_day, read, run,
-};
+use gateway_run::{Day, LinkRules, PortFault, PortNumber, RunPlan, SettingsFile, audit_day, run};
 use std::alloc::{AllocError, Global};
 use std::hash::RandomState;
 use std::io::{Read, Write};
@@ -69,12 +67,20 @@ fn say_nothing_known<R: Clock + Net<Listener = TcpListener, Stream = TcpStream>>
         mut writer,
         ..
     } = link.map_err(DemoFault::Link)?;
-    let mut market = Market::new(alloc, Choice::AcceptLive);
-    market.serve(1, &mut reader, &mut writer)?;
-    writer.write_all(b"\x00\x03S00")?;
-    read_to_end(&mut reader)?;
+    fill_and_say(alloc, &mut reader, &mut writer)?;
     has_closed.store(true, Ordering::SeqCst);
     Ok(())
+}
+
+/// Fills an order, says `00`, and reads until the link is closed.
+fn fill_and_say<S: Read, W: Write>(
+    alloc: Global,
+    reader: &mut S,
+    writer: &mut W,
+) -> Result<(), DemoFault> {
+    Market::new(alloc, Choice::AcceptLive).serve(1, reader, writer)?;
+    writer.write_all(b"\x00\x03S00")?;
+    read_to_end(reader)
 }
 
 /// Reads until the link is closed.
@@ -98,12 +104,7 @@ fn buy_twice<R: Clock + Net<Listener = TcpListener, Stream = TcpStream>>(
     let stream = connected(rt, address, Duration::from_secs(10))?;
     let mut client = Client::new(rt, alloc, "C1", stream);
     log_on_and_buy(&mut client, &FILLED)?;
-    for _ in 0..1_000 {
-        if has_closed.load(Ordering::SeqCst) {
-            break;
-        }
-        thread::sleep(rt, Duration::from_millis(10));
-    }
+    wait_for(rt, has_closed, 1_000);
     is_refused_and_goes(&mut client)
 }
 
@@ -118,23 +119,41 @@ fn is_refused_and_goes<R: Clock, S: Read + Write + Drop>(
 
 #[test]
 fn a_payload_outside_the_profile_ends_its_port_alone(rt: HostRuntime) -> Result<(), Fail> {
-    let alloc = rt.alloc();
-    let rt = &rt;
+    let hasher = RandomState::new(&rt)?;
+    let is_over = AtomicBool::new(false);
+    listen_and_serve(&rt, rt.alloc(), hasher, &is_over)
+}
+
+/// Has the client and the market listen, and serves their day.
+fn listen_and_serve<R>(
+    rt: &R,
+    alloc: Global,
+    hasher: RandomState,
+    is_over: &AtomicBool,
+) -> Result<(), Fail>
+where
+    R: Threads + Wait + Sync + Clock + Eprint + Abort,
+    R: Net<Listener = TcpListener, Stream = TcpStream>,
+{
     let (client, address) = listening(rt, alloc)?;
     let (listener, market_address) = listening(rt, alloc)?;
     // moved out of its pair before the other half is lent
     let market = listener;
-    let market_address = market_address.as_str();
-    let is_over = AtomicBool::new(false);
-    let is_over = &is_over;
-    let plan = plan_of(rt, alloc, client, market_address, is_over)?;
-    let hasher = RandomState::new(rt)?;
+    let plan = plan_of(rt, alloc, client, market_address.as_str(), is_over)?;
     let flags = Flags {
         is_past: AtomicBool::new(false),
         has_closed: AtomicBool::new(false),
     };
-    let address = address.as_str();
-    serve_day(rt, alloc, hasher, plan, market, address, is_over, &flags)
+    serve_day(
+        rt,
+        alloc,
+        hasher,
+        plan,
+        market,
+        address.as_str(),
+        is_over,
+        &flags,
+    )
 }
 
 /// Whether the gateway has come to its end, and whether it has closed its port's link.
@@ -177,9 +196,7 @@ where
     R: Threads + Wait + Sync + Clock + Eprint + Abort,
     R: Net<Listener = TcpListener, Stream = TcpStream>,
 {
-    let Ok(SettingsFile { settings, .. }) = read(alloc, SETTINGS.as_bytes()) else {
-        return Err(Fail::new("the settings are refused"));
-    };
+    let SettingsFile { settings, .. } = settings_of(alloc, SETTINGS.as_bytes())?;
     let (is_past, has_closed) = (&flags.is_past, &flags.has_closed);
     let (ran, ended) = thread::scope(thread::scope_env(), rt, |scope| {
         let market = scope.spawn(move || say_nothing_known(rt, alloc, market, is_past, has_closed));
@@ -189,15 +206,7 @@ where
         (ran, ended(rt, market).and(ended(rt, client)))
     });
     assert!(rt; ended == Ok(()));
-    look_at_end(rt, alloc, ran)
-}
-
-/// The gateway ran to its end.
-fn look_at_end(rt: &impl Abort, alloc: Global, ran: Result<Day, RunFault>) -> Result<(), Fail> {
-    match ran {
-        Ok(day) => look_at(rt, alloc, &day),
-        Err(_) => Err(Fail::new("the gateway did not run to its end")),
-    }
+    look_at(rt, alloc, &day_of(ran)?)
 }
 
 /// One batch has a fault, that of the port, and the one order that was filled agrees.

@@ -1,6 +1,6 @@
 //! Command lines of the script program.
 
-use super::running::Run;
+use super::running::{Run, is_text};
 use script_command::run_program;
 use std::alloc::Global;
 use std::process::Abort;
@@ -59,20 +59,19 @@ fn run_by(alloc: Global, words: &[&str]) -> Run {
     }
 }
 
-/// A run printed this and told what begins so.
-fn came_to(rt: &impl Abort, run: &Run, words: &[&str], printed: &str, told: &str) {
-    assert!(rt; run.output.as_slice() == printed.as_bytes(), "{words:?}");
-    assert!(rt; run.faults.starts_with(told.as_bytes()), "{words:?}");
-    assert!(rt; run.faults.is_empty() == told.is_empty(), "{words:?}");
-}
-
 #[test]
 fn each_flag_and_what_is_refused(rt: HostRuntime) {
     for (words, status, printed, told) in &COMMAND_LINES {
-        let run = run_by(rt.alloc(), words);
-        came_to(&rt, &run, words, printed, told);
-        assert!(rt; run.status == *status, "{words:?}");
+        came_to(&rt, &run_by(rt.alloc(), words), *status, printed, told);
     }
+}
+
+/// A run ended with this status, printed this, and told what begins so.
+fn came_to(rt: &impl Abort, run: &Run, status: u8, printed: &str, told: &str) {
+    is_text(rt, run.output.as_slice(), printed, printed);
+    assert!(rt; run.faults.starts_with(told.as_bytes()), "{told}");
+    assert!(rt; run.faults.is_empty() == told.is_empty());
+    assert!(rt; run.status == status);
 }
 
 const HELP: [[&str; 3]; 2] = [
@@ -80,23 +79,28 @@ const HELP: [[&str; 3]; 2] = [
     ["gate_script", "--cold", "-h"],
 ];
 
+/// What the help says, among others.
+const HELPS: [&str; 3] = [
+    "Shows each frame's sequence number (34)",
+    "Shows each frame whole, | for SOH",
+    "Starts with no client logged on and no port logged in",
+];
+
 /// The help goes where the outputs go, and nothing is run.
 #[test]
 fn the_help(rt: HostRuntime) {
     for words in &HELP {
-        shows_help(&rt, &run_by(rt.alloc(), words.as_slice()));
+        let run = run_by(rt.alloc(), words.as_slice());
+        assert!(rt; run.status == 0);
+        assert!(rt; run.faults.is_empty());
+        shows_help(&rt, run.output.as_slice());
     }
 }
 
-fn shows_help(rt: &impl Abort, run: &Run) {
-    assert!(rt; run.status == 0);
-    assert!(rt;
-        run.output
-            .starts_with(b"Runs a script of the order gateway")
-    );
-    let help = str::from_utf8(run.output.as_slice()).unwrap_or("");
-    assert!(rt; help.contains("Shows each frame's sequence number (34)"));
-    assert!(rt; help.contains("Shows each frame whole, | for SOH"));
-    assert!(rt; help.contains("Starts with no client logged on and no port logged in"));
-    assert!(rt; run.faults.is_empty());
+fn shows_help(rt: &impl Abort, output: &[u8]) {
+    assert!(rt; output.starts_with(b"Runs a script of the order gateway"));
+    let help = str::from_utf8(output).unwrap_or("");
+    for text in HELPS {
+        assert!(rt; help.contains(text), "{text}");
+    }
 }

@@ -1,8 +1,7 @@
 //! Files that aren't of a day that is over.
 
-use journal_audit::audit_file;
-use script_steps::fixed_settings;
-use std::alloc::Global;
+use super::running::{assert_ran, audited_file};
+use std::alloc::{AllocError, Global};
 use std::process::Abort;
 use std::test::Fail;
 
@@ -22,34 +21,37 @@ const ONE_UP_BEFORE: &[u8; 66] = b"\0\0\0\0\0\0\0\x32GJ01\
     \x0f\0\0\0\0\0\0\0\0\0\0\0\0\0\0\0\0\0\0\0\0\0\0\
     \0\0\0\0\0\0\0\0";
 
-/// Where a refusal is told with the status 2, and nothing is printed; other texts begin with a status that isn't
-/// wanted.
-fn refusal_of(alloc: Global, file: &[u8]) -> Result<Vec<u8>, Fail> {
-    let settings = fixed_settings(alloc)?;
-    let mut output = Vec::new(alloc);
-    let mut faults = Vec::new(alloc);
-    let status = audit_file(alloc, file, &settings, &mut output, &mut faults);
-    if status != 2 || !output.is_empty() {
-        faults.insert(0, b'0'.saturating_add(status))?;
-    }
-    Ok(faults)
+/// A file is refused, with the status 2, and this is told.
+fn refuses(rt: &impl Abort, alloc: Global, file: &[u8], told: &str) -> Result<(), Fail> {
+    let run = audited_file(alloc, file)?;
+    assert_ran(rt, &run, "", told, 2, told);
+    Ok(())
+}
+
+/// A file of these two parts is refused.
+fn refuses_both(
+    rt: &impl Abort,
+    alloc: Global,
+    first: &[u8],
+    then: &[u8],
+    told: &str,
+) -> Result<(), Fail> {
+    let mut file = Vec::from_slice(alloc, first)?;
+    file.extend_from_slice(then)?;
+    refuses(rt, alloc, file.as_slice(), told)
 }
 
 /// A file without an order is audited.
 fn has_no_orders(alloc: Global, file: &[u8]) -> Result<bool, Fail> {
-    let settings = fixed_settings(alloc)?;
-    let mut output = Vec::new(alloc);
-    let mut faults = Vec::new(alloc);
-    let status = audit_file(alloc, file, &settings, &mut output, &mut faults);
-    Ok(status == 0 && output.as_slice() == b"orders 0 agree 0\n".as_slice())
+    let run = audited_file(alloc, file)?;
+    Ok(run.status == 0 && run.output.as_slice() == b"orders 0 agree 0\n".as_slice())
 }
 
 /// Of either form.
 #[test]
 fn a_file_without_orders(rt: HostRuntime) -> Result<(), Fail> {
-    let alloc = rt.alloc();
-    assert!(rt; has_no_orders(alloc, ONE_UP)?);
-    assert!(rt; has_no_orders(alloc, ONE_UP_BEFORE)?);
+    assert!(rt; has_no_orders(rt.alloc(), ONE_UP)?);
+    assert!(rt; has_no_orders(rt.alloc(), ONE_UP_BEFORE)?);
     Ok(())
 }
 
@@ -57,20 +59,22 @@ fn a_file_without_orders(rt: HostRuntime) -> Result<(), Fail> {
 /// was cut short, of the page or of the end.
 #[test]
 fn each_front_of_a_file(rt: HostRuntime) -> Result<(), Fail> {
-    let alloc = rt.alloc();
     for size in 0..ONE_UP.len() {
         let torn = if size < 74 { size } else { size - 74 };
-        let refusal = refusal_of(alloc, &ONE_UP[..size])?;
-        let told = if torn == 0 {
-            format!(in alloc; "the day goes on: its file has no end\n")?
-        } else {
-            format!(in alloc;
-                "the day goes on: its file ends with {torn} bytes of a write that was cut short\n"
-            )?
-        };
-        assert!(rt; refusal.as_slice() == told.as_bytes(), "{size} bytes");
+        let told = goes_on(rt.alloc(), torn)?;
+        refuses(&rt, rt.alloc(), &ONE_UP[..size], told.as_str())?;
     }
     Ok(())
+}
+
+/// What is told of a day that goes on, whose file ends with so many bytes of a write that was cut short.
+fn goes_on(alloc: Global, torn: usize) -> Result<String, AllocError> {
+    if torn == 0 {
+        return String::from_str(alloc, "the day goes on: its file has no end\n");
+    }
+    Ok(format!(in alloc;
+        "the day goes on: its file ends with {torn} bytes of a write that was cut short\n"
+    )?)
 }
 
 /// A file of the first form has to be over, wherever it is cut: with page 0 where that isn't whole, else with page 1.
@@ -79,12 +83,11 @@ fn each_front_of_a_file(rt: HostRuntime) -> Result<(), Fail> {
 fn each_front_of_a_file_of_the_first_form(rt: HostRuntime) -> Result<(), Fail> {
     for size in 12..ONE_UP_BEFORE.len() {
         let told = if size < 58 {
-            b"page 0: cut short\n"
+            "page 0: cut short\n"
         } else {
-            b"page 1: cut short\n"
+            "page 1: cut short\n"
         };
-        let refusal = refusal_of(rt.alloc(), &ONE_UP_BEFORE[..size])?;
-        assert!(rt; refusal.as_slice() == told.as_slice(), "{size} bytes");
+        refuses(&rt, rt.alloc(), &ONE_UP_BEFORE[..size], told)?;
     }
     Ok(())
 }
@@ -93,30 +96,25 @@ fn each_front_of_a_file_of_the_first_form(rt: HostRuntime) -> Result<(), Fail> {
 #[test]
 fn a_file_that_is_changed(rt: HostRuntime) -> Result<(), Fail> {
     let alloc = rt.alloc();
-    let mut longer = Vec::from_slice(alloc, ONE_UP)?;
-    longer.push(0)?;
-    refuses(&rt, alloc, longer.as_slice(), b"page 1: head\n")?;
+    refuses_both(&rt, alloc, ONE_UP, b"\0", "page 1: head\n")?;
     let mut file = *ONE_UP;
     file[51] = 0x10;
-    refuses(&rt, alloc, &file, b"page 0: sum\n")?;
+    refuses(&rt, alloc, &file, "page 0: sum\n")?;
     let mut file = *ONE_UP_BEFORE;
     file[35] = 0x10;
-    refuses(&rt, alloc, &file, b"page 0: kind\n")
+    refuses(&rt, alloc, &file, "page 0: kind\n")
 }
 
 /// A page that stands whole behind a damaged one is no crash's work; nor is an end.
 #[test]
 fn a_page_behind_a_damaged_one(rt: HostRuntime) -> Result<(), Fail> {
     let alloc = rt.alloc();
-    let mut file = Vec::from_slice(alloc, &ONE_UP[..74])?;
-    file.extend_from_slice(&ONE_UP[..74])?;
-    refuses(&rt, alloc, file.as_slice(), b"page 1: number\n")?;
+    let page = &ONE_UP[..74];
+    refuses_both(&rt, alloc, page, page, "page 1: number\n")?;
     let mut damaged = *ONE_UP;
     damaged[51] = 0x10;
-    let mut file = Vec::from_slice(alloc, &damaged[..74])?;
-    file.extend_from_slice(&ONE_UP[..74])?;
-    refuses(&rt, alloc, file.as_slice(), b"page 0: sum\n")?;
-    refuses(&rt, alloc, &damaged, b"page 0: sum\n")
+    refuses_both(&rt, alloc, &damaged[..74], page, "page 0: sum\n")?;
+    refuses(&rt, alloc, &damaged, "page 0: sum\n")
 }
 
 /// Each byte of a file changed: its page's by the sum, and the end's.
@@ -127,12 +125,5 @@ fn each_byte_of_a_file(rt: HostRuntime) -> Result<(), Fail> {
         file[at] ^= 1;
         assert!(rt; !has_no_orders(rt.alloc(), &file)?, "byte {at}");
     }
-    Ok(())
-}
-
-/// A file is refused, and this is told.
-fn refuses(rt: &impl Abort, alloc: Global, file: &[u8], told: &[u8]) -> Result<(), Fail> {
-    let refusal = refusal_of(alloc, file)?;
-    assert!(rt; refusal.as_slice() == told);
     Ok(())
 }

@@ -1,10 +1,13 @@
-//! Running a script over memory.
+//! Running a script, and auditing a file, over memory.
 
 use gate_lines::{Flags, run_script, run_script_with};
+use journal_audit::audit_file;
+use script_steps::fixed_settings;
 use std::alloc::{AllocError, Global};
 use std::hash::BuildHasher;
 use std::process::Abort;
 use std::str;
+use std::test::Fail;
 
 /// No flag.
 pub const PLAIN: Flags = Flags {
@@ -14,7 +17,7 @@ pub const PLAIN: Flags = Flags {
 };
 
 /// What a run left behind.
-#[derive(Debug, Drop)]
+#[derive(Drop)]
 pub struct Run {
     pub output: Vec<u8>,
     pub faults: Vec<u8>,
@@ -47,23 +50,29 @@ pub fn run_with<S: BuildHasher + Clone + Drop>(alloc: Global, hasher: S, script:
     }
 }
 
-/// The bytes are this text, where a script is run.
-fn is_text(rt: &impl Abort, bytes: &[u8], text: &str, script: &str) {
-    assert_eq!(rt; str::from_utf8(bytes), Ok(text), "{script}");
+/// Audits a file of a day of the fixed settings.
+pub fn audited_file(alloc: Global, file: &[u8]) -> Result<Run, Fail> {
+    let settings = fixed_settings(alloc)?;
+    let mut output = Vec::new(alloc);
+    let mut faults = Vec::new(alloc);
+    let status = audit_file(alloc, file, &settings, &mut output, &mut faults);
+    Ok(Run {
+        output,
+        faults,
+        status,
+    })
 }
 
-/// A run of a script printed this, told this, and ended with this status.
-pub fn assert_ran(
-    rt: &impl Abort,
-    run: &Run,
-    output: &str,
-    faults: &str,
-    status: u8,
-    script: &str,
-) {
-    is_text(rt, run.output.as_slice(), output, script);
-    is_text(rt, run.faults.as_slice(), faults, script);
-    assert!(rt; run.status == status, "{script}");
+/// The bytes are this text, in what comes of this.
+pub fn is_text(rt: &impl Abort, bytes: &[u8], text: &str, of: &str) {
+    assert!(rt; bytes == text.as_bytes(), "{of}");
+}
+
+/// A run of this printed this, told this, and ended with this status.
+pub fn assert_ran(rt: &impl Abort, run: &Run, output: &str, faults: &str, status: u8, of: &str) {
+    is_text(rt, run.output.as_slice(), output, of);
+    is_text(rt, run.faults.as_slice(), faults, of);
+    assert!(rt; run.status == status, "{of}");
 }
 
 /// The script runs to its end and prints this.

@@ -1,6 +1,6 @@
 //! Readers and writers that fail.
 
-use super::running::PLAIN;
+use super::running::{PLAIN, Run};
 use gate_lines::run_script;
 use std::alloc::{AllocError, Global};
 use std::io::{self, ErrorKind, Read, Write};
@@ -24,17 +24,19 @@ const ANSWER_OUTPUT: &[u8] = b"\
 C1 > 35=8|37=1|11=A1|17=2|150=0|39=0|55=INTC|54=1|38=300|44=23.45|151=300|14=0|6=0
 ";
 
-/// A reader that gives one byte at a time, interrupted before each, and fails when these are given.
+/// A reader that gives one byte at a time, interrupted before each where it is asked to be, and comes to its end, or
+/// fails, when these are given.
 #[derive(Drop)]
 struct Torn<'a> {
     rest: &'a [u8],
+    interrupts: bool,
     interrupted: bool,
-    kind: ErrorKind,
+    fault: Option<ErrorKind>,
 }
 
 impl<'a> Read for Torn<'a> {
     fn read(&mut self, buf: &mut [u8]) -> io::Result<usize> {
-        self.interrupted = !self.interrupted;
+        self.interrupted = self.interrupts && !self.interrupted;
         if self.interrupted {
             return Err(io::Error::from(ErrorKind::Interrupted));
         }
@@ -44,8 +46,29 @@ impl<'a> Read for Torn<'a> {
                 self.rest = rest;
                 Ok(1)
             }
-            _ => Err(io::Error::from(self.kind)),
+            _ => match self.fault {
+                Some(kind) => Err(io::Error::from(kind)),
+                None => Ok(0),
+            },
         }
+    }
+}
+
+/// Runs what a reader gives.
+fn run_torn(alloc: Global, rest: &[u8], interrupts: bool, fault: Option<ErrorKind>) -> Run {
+    let mut input = Torn {
+        rest,
+        interrupts,
+        interrupted: false,
+        fault,
+    };
+    let mut output = Vec::new(alloc);
+    let mut faults = Vec::new(alloc);
+    let status = run_script(alloc, PLAIN, &mut input, &mut output, &mut faults);
+    Run {
+        output,
+        faults,
+        status,
     }
 }
 
@@ -72,25 +95,6 @@ impl Write for Failing {
             Ok(())
         } else {
             Err(io::Error::from(ErrorKind::BrokenPipe))
-        }
-    }
-}
-
-/// A reader that gives one byte at a time, to the end.
-#[derive(Drop)]
-struct Slow<'a> {
-    rest: &'a [u8],
-}
-
-impl<'a> Read for Slow<'a> {
-    fn read(&mut self, buf: &mut [u8]) -> io::Result<usize> {
-        match (self.rest, buf) {
-            ([first, rest @ ..], [place, ..]) => {
-                *place = *first;
-                self.rest = rest;
-                Ok(1)
-            }
-            _ => Ok(0),
         }
     }
 }
@@ -174,31 +178,19 @@ fn long_script(alloc: Global) -> Result<Vec<u8>, AllocError> {
 #[test]
 fn a_reader_of_one_byte_at_a_time(rt: HostRuntime) -> Result<(), Fail> {
     let script = long_script(rt.alloc())?;
-    let mut input = Slow {
-        rest: script.as_slice(),
-    };
-    let mut output = Vec::new(rt.alloc());
-    let mut faults = Vec::new(rt.alloc());
-    let status = run_script(rt.alloc(), PLAIN, &mut input, &mut output, &mut faults);
-    assert!(rt; is_both(output.as_slice()));
-    assert!(rt; faults.is_empty());
-    assert!(rt; status == 0);
+    let run = run_torn(rt.alloc(), script.as_slice(), false, None);
+    assert!(rt; is_both(run.output.as_slice()));
+    assert!(rt; run.faults.is_empty());
+    assert!(rt; run.status == 0);
     Ok(())
 }
 
 #[test]
 fn a_reader_that_fails_in_mid_stream(rt: HostRuntime) {
     for kind in [ErrorKind::Other, ErrorKind::OutOfMemory] {
-        let mut input = Torn {
-            rest: &SCRIPT[..70],
-            interrupted: false,
-            kind,
-        };
-        let mut output = Vec::new(rt.alloc());
-        let mut faults = Vec::new(rt.alloc());
-        let status = run_script(rt.alloc(), PLAIN, &mut input, &mut output, &mut faults);
-        assert!(rt; output.as_slice() == ORDER_OUTPUT);
-        has_failed(&rt, faults.as_slice(), status);
+        let run = run_torn(rt.alloc(), &SCRIPT[..70], true, Some(kind));
+        assert!(rt; run.output.as_slice() == ORDER_OUTPUT);
+        has_failed(&rt, run.faults.as_slice(), run.status);
     }
 }
 

@@ -1,6 +1,6 @@
 //! The session of a market port.
 
-ghost use Rattle.std.specs.Prelude.{◌≡◌, ◌≤◌, ◌<◌, ◌+◌, ℕ, List, [], ◌∷◌, length, IfOk, OnErr};
+ghost use Rattle.std.specs.Prelude.{◌≡◌, ◌≤◌, ◌<◌, ◌+◌, ℕ, List, [], ◌∷◌, length, nat_lt, IfOk, OnErr};
 ghost use Rattle.soup_packets.specs.declared.packet.Packet.{Packet};
 ghost use Rattle.soup_session.specs.Table.{LoginTerms, PortCall, OnUp, OnPacket, OnGone, OnTick, Send, Fail, answer};
 ghost use Rattle.soup_session.specs.Table.{standing, wanted};
@@ -171,6 +171,17 @@ impl PortSession {
     {
         let answered = on_tick(alloc, self.port, at);
         self.take(answered)
+    }
+
+    /// Whether anything is due at this moment: whether a tick would give the link anything. One that gives it nothing
+    /// changes no more than the session's latest moment. Takes no memory.
+    ///
+    /// Source: SoupBinTCP 3.00, "Heartbeats".
+    pub fn is_due(&self, alloc: Global, at: u64) -> bool
+        ensures { (terms : LoginTerms) (before : List PortCall) → CallsLeave terms before self.now.port
+            → result ≡ nat_lt 0 (length (answer terms before (OnTick at)).outs) }
+    {
+        on_tick(alloc, self.port, at).out.is_some()
     }
 
     /// A message goes out while up, in the packet whose payload it is. Takes no memory.

@@ -7,9 +7,11 @@ ghost use Rattle.gate_law.specs.Lists.{Lists};
 ghost use Rattle.gate_events.specs.Seen.{batch_seen};
 ghost use Rattle.gate_core.specs.State.{ArePartsOf};
 ghost use Rattle.gate_core.specs.Steps.{Grows, Ready, Stepped};
-ghost use Rattle.gate_core.specs.Expected.{next_expected};
+ghost use Rattle.gate_core.specs.Expected.{logon_fault_now, next_expected};
 
 use super::{Parts, place_of};
+use fix_fields::Fields;
+use fix_session::LogonFault;
 use gate_events::{Batch, ClientNumber};
 use gate_sessions::{only_outs, told_client};
 use short_list::ShortList;
@@ -108,6 +110,15 @@ impl<S: BuildHasher + Drop> Parts<S> {
         } else {
             None
         }
+    }
+
+    /// Why a frame of a client's link that isn't logged on is answered by the link's end alone.
+    pub(crate) fn logon_fault(&self, client: ClientNumber, frame: &Fields) -> Option<LogonFault>
+        ensures { (s : Settings) (v : Lists) → ArePartsOf s v self.now
+            → result ≡ logon_fault_now s client (v.client_calls client) frame.now }
+    {
+        let place = self.client_place(client)?;
+        self.clients.lines[place].logon_fault(frame)
     }
 
     /// The number that is expected of the next frame of a client, where the settings have the client.

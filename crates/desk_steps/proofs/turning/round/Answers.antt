@@ -21,7 +21,7 @@ loop-place-preserved g c =
     let t : DeskState = record { recorded = c.turn_at.new.recorded; side = c.turn_at.new.side } in
     let w = c.loop-place.invariant.went in
     record {
-      went = (c.in-Ok.did ∷ w.0, went-more s m t w.0 c.loop-place.place c.in-Ok.did w.1 w.2 c.in-Ok.ensures.ok, omega (arith, w.2), c.count.ensures.counts w.0 w.3);
+      went = (c.turn_at.result ∷ w.0, went-more s m t w.0 c.loop-place.place c.turn_at.result w.1 w.2 c.turn_at.ensures.does, omega (arith, w.2), c.count.ensures.counts w.0 w.3);
       size = c.turn_at.ensures.count ∙ c.loop-place.invariant.size;
       end = c.loop-place.invariant.end;
       few = omega (arith, c.count.ensures.few, c.loop-place.invariant.few);

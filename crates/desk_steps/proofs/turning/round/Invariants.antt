@@ -10,5 +10,5 @@ invariant-loop-place g l = record {
       × (length dids ≡ l.place) × (counted dids ≡ l.turned);
   size : length l.side.seats ≡ l.place-end;
   end : l.place-end ≡ length l.initial.side.seats;
-  few : l.turned.steps + l.turned.held ≤ l.place;
+  few : l.turned.steps + l.turned.held + l.turned.refused ≤ l.place;
 }

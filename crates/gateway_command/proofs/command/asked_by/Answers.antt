@@ -27,6 +27,14 @@ pub returns-in-demo : goal.returns-in-demo
 unfolding asking_of asked_seen
 returns-in-demo c = search rules
 
+pub returns-in-export : goal.returns-in-export
+unfolding asking_of
+returns-in-export c = search rules
+
+pub returns-in-world : goal.returns-in-world
+unfolding asking_of
+returns-in-world c = search rules
+
 pub returns-in_default : goal.returns-in_default
 unfolding asking_of
 returns-in_default c = search rules

@@ -2,7 +2,7 @@
 use Rattle.std.proofs.Common.{rules, ap, ap₂, ◌≡◌, ◌∙◌}
 use Rattle.std.proofs.lemmas.Result.{IfOk-weaker}
 use Rattle.clap.specs.Words.{App, app_of}
-use Rattle.gateway_command.specs.Command.{alone, audit, demo, ends, journal, runs, serves, with_command}
+use Rattle.gateway_command.specs.Command.{alone, audit, demo, ends, exports, journal, runs, serves, with_command, world}
 use Rattle.gateway_command.proofs.command.gateway.Goals as goal
 
 abbrev to_end : App
@@ -21,4 +21,8 @@ returns c =
     c.in_ok-with_demo.ensures ∙ ap₂ with_command with_end_is c.demo.ensures.app in
     let with_audit_is : app_of c.in_ok-with_audit.with_audit ≡ with_command (with_command to_end demo) audit =
     c.in_ok-with_audit.ensures ∙ ap (λ x. with_command x audit) with_demo_is in
-    IfOk-weaker c.with_journal.result _ _ (λ command h. h ∙ ap (λ x. with_command x journal) with_audit_is) c.with_journal.ensures
+    let with_export_is : app_of c.in_ok-with_export.with_export ≡ with_command (with_command (with_command to_end demo) audit) exports =
+    c.in_ok-with_export.ensures ∙ ap (λ x. with_command x exports) with_audit_is in
+    let with_journal_is : app_of c.in_ok-with_journal.with_journal ≡ with_command (with_command (with_command (with_command to_end demo) audit) exports) journal =
+    c.in_ok-with_journal.ensures ∙ ap (λ x. with_command x journal) with_export_is in
+    IfOk-weaker c.with_world.result _ _ (λ command h. h ∙ ap (λ x. with_command x world) with_journal_is) c.with_world.ensures

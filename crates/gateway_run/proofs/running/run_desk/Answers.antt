@@ -1,24 +1,19 @@
--- No list was taken from the outlets of a desk that was opened just now, and their gates may go to other threads.
+-- The gates of a desk's outlets may go to other threads.
 use denote.Param.{param}
 use denote.Param.Send.{IsSend, sendable}
 use denote.Ref.{NamedLft}
 use denote.RattleType.{RattleType}
-use Rattle.std.proofs.Common.{◌≡◌, []}
+use Rattle.std.proofs.Common.{List, length, ap, arith}
 use Rattle.std.proofs.Crossing.{crosses}
 use Rattle.std.specs.declared.hash.BuildHasher as BuildHasher
 use Rattle.std.specs.declared.hash.Hasher as Hasher
 use Rattle.desk_gates.proofs.Sent.{outlet_gate_send}
 use Rattle.desk_gates.specs.desk.declared.DeskName as DeskName
-use Rattle.desk_gates.specs.desk.desk_ends.Rings.{Taking}
+use Rattle.desk_gates.specs.desk.desk_ends.Rings.{NamedInlet}
 use Rattle.desk_gates.specs.contracts.outlet.OutletGate as OutletGate
 use Rattle.gateway_run.specs.contracts.telling_gate.TellingGate as TellingGate
-use Rattle.gateway_run.proofs.Kept.{at_each}
 use Rattle.gateway_run.proofs.Sent.{telling_send}
 use Rattle.gateway_run.proofs.running.run_desk.Goals as goal
-
-pub pens_of-requires : goal.pens_of-requires
-pens_of-requires g c =
-    record { fresh = at_each (λ (x : Taking). x.took ≡ []) _ (λ d x e. (c.in_ok-shared.ensures.outlets.1 d x e).1) }
 
 pub serve_desk-requires-send-G : goal.serve_desk-requires-send-G
 serve_desk-requires-send-G g c κs l =
@@ -30,3 +25,7 @@ serve_desk-requires-send-G g c κs l =
     let told : (a : NamedLft) (X : RattleType) → IsSend X → IsSend (TellingGate.the_row a X R)
     = λ a X x. telling_send a R c.type_bounds.sync-R X x in
     search (told, gates, sendable, crosses) depth 100 fits 500000
+
+pub serve_desk-requires-clause-clock : goal.serve_desk-requires-clause-clock
+serve_desk-requires-clause-clock g c κs within =
+    omega (arith, c.go_on.ensures, c.in_ok-shared.ensures.inlets.0, ap (λ (l : List NamedInlet). length l) c.requires.named.0, c.requires.clock)

@@ -1,0 +1,4 @@
+pub mod Exported
+pub mod Forms
+pub mod Market
+pub mod Said

@@ -1,0 +1,17 @@
+use Rattle.std.proofs.Common.{◌≡◌, ◌++◌, ◌-◌}
+use Rattle.std.specs.VecDeque.{deque_len}
+use Rattle.rtrb.specs.Ring.{known_free, sent}
+use Rattle.desk_ends.specs.Rings.{producer_ring}
+use Rattle.desk_ends.proofs.way.Way.release.Given as goal
+
+-- what went in stays, and for how much more there is room
+abbrev pub invariant-loop : goal.invariant-loop
+invariant-loop l = record {
+  to : l.self-inside.to ≡ l.initial.self-inside.to;
+  ring : producer_ring l.self-inside.producer ≡ producer_ring l.initial.self-inside.producer;
+  sent : sent l.self-inside.producer ++ l.self-inside.staged.items
+      ≡ sent l.initial.self-inside.producer ++ l.initial.self-inside.staged.items;
+  free : known_free l.self-inside.producer - deque_len l.self-inside.staged
+      ≡ known_free l.initial.self-inside.producer - deque_len l.initial.self-inside.staged;
+  cut : l.self-inside.cut ≡ l.initial.self-inside.cut;
+}

@@ -1,5 +1,0 @@
-use Rattle.gateway_run.proofs.running.run.Given as goal
-
--- the rings of the parts
-abbrev pub ghosts-run_desk : goal.ghosts-run_desk
-ghosts-run_desk g a = record { inlets = a.parts.inlets; outlets = a.parts.outlets }

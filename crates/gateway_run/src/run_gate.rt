@@ -1,0 +1,204 @@
+//! What is looked at before it goes to the desk: ticks that aren't due are left out, and it is told why a client's Logon
+//! isn't answered, and what a market says of a login.
+
+use crate::telling::Teller;
+use desk_gates::{DeskName, Gate, Shared};
+use fix_fields::Fields;
+use fix_session::LogonFault;
+use gate_events::{ClientNumber, Event, LinkOut};
+use short_list::ShortList;
+use soup_packets::Packet;
+use std::alloc::{AllocError, Global};
+use std::fmt;
+use std::fmt::{Display, Formatter};
+use std::hash::RandomState;
+use std::sync::Wait;
+use std::time::Clock;
+
+/// A gate through which a tick goes only where a session's table has a row for it just now (`Core::is_due`). Any other
+/// tick is given back: it would give its link nothing, and would stand in the day's history for ever.
+///
+/// Where somebody tells, it is told why a link's first frame is no Logon that is answered (`Core::logon_fault`), and with
+/// which letter a market rejects a login.
+#[derive(Drop)]
+pub(crate) struct RunGate<'a, G, K: DeskName, R> {
+    gate: G,
+    rt: &'a R,
+    alloc: Global,
+    shared: &'a Shared<K, RandomState>,
+    teller: Option<Teller<'a, R>>,
+    /// No frame of the link came yet.
+    is_first: bool,
+}
+
+impl<'a, G, K: DeskName, R> RunGate<'a, G, K, R> {
+    ghost use Rattle.std.specs.Prelude.{◌≡◌};
+
+    /// This gate to the desk, with who tells, where somebody does. Takes no memory.
+    pub(crate) fn new(
+        rt: &'a R,
+        alloc: Global,
+        shared: &'a Shared<K, RandomState>,
+        gate: G,
+        teller: Option<Teller<'a, R>>,
+    ) -> RunGate<'a, G, K, R>
+        ensures { result.gate ≡ gate }
+    {
+        RunGate {
+            gate,
+            rt,
+            alloc,
+            shared,
+            teller,
+            is_first: true,
+        }
+    }
+
+    /// The gate. Takes no memory.
+    pub(crate) fn into_gate(self) -> G
+        ensures { result ≡ self.entry.gate }
+    {
+        self.gate
+    }
+}
+
+impl<'a, G, K: DeskName, R: Wait + Clock + Eprint> RunGate<'a, G, K, R> {
+    ghost use Rattle.std.specs.Prelude.{◌≡◌};
+
+    /// Whether an event is a tick that gives nothing.
+    fn is_left_out(&self, event: &Event) -> bool {
+        match event {
+            Event::ClientTick { .. } | Event::PortTick { .. } => {
+                !self.shared.is_due(self.rt, self.alloc, event)
+            }
+            _ => false,
+        }
+    }
+
+    /// Tells of an event, where there is something to tell.
+    fn look(&mut self, event: &Event)
+        ensures { self.new.gate ≡ self.old.gate }
+    {
+        match event {
+            Event::ClientUp { .. } => self.is_first = true,
+            Event::ClientMessage { client, frame, .. } => {
+                self.look_at_frame(*client, frame.fields());
+            }
+            Event::PortPacket { packet, .. } => self.look_at_packet(packet),
+            _ => {}
+        }
+    }
+
+    /// Tells why a frame isn't answered, if it is the first of its link.
+    fn look_at_frame(&mut self, client: ClientNumber, frame: &Fields)
+        ensures { self.new.gate ≡ self.old.gate }
+    {
+        if !self.is_first {
+            return;
+        }
+        self.is_first = false;
+        if let Some(teller) = &self.teller {
+            if let Some(fault) = self.shared.logon_fault(self.rt, client, frame) {
+                teller.tell_of(&RefusedLogon { fault, frame });
+            }
+        }
+    }
+
+    /// Tells of a Login Rejected.
+    fn look_at_packet(&self, packet: &Packet) {
+        if let (Some(teller), b'J') = (&self.teller, packet.kind) {
+            teller.tell_of(&RejectedLogin(packet));
+        }
+    }
+}
+
+impl<'a, G: Gate, K: DeskName, R: Wait + Clock + Eprint> Gate for RunGate<'a, G, K, R> {
+    ghost was_put = { λ t. G.was_put t.gate };
+
+    ghost was_taken = { λ t. G.was_taken t.gate };
+
+    /// Puts an event; a tick only where it is due, once the desk could be had.
+    fn put(&mut self, event: Event) -> Result<(), Event> {
+        if self.is_left_out(&event) {
+            return Err(event);
+        }
+        self.look(&event);
+        self.gate.put(event)
+    }
+
+    fn take(&mut self) -> Option<ShortList<LinkOut>> {
+        self.gate.take()
+    }
+
+    fn turn<W: Wait>(&mut self, rt: &W, alloc: Global) -> Result<u32, AllocError> {
+        self.gate.turn(rt, alloc)
+    }
+
+    fn wake_writer(&self) {
+        self.gate.wake_writer();
+    }
+}
+
+/// Why a Logon is refused: the field, with what it has, and what it is to have.
+#[derive(Drop)]
+struct RefusedLogon<'f> {
+    fault: LogonFault,
+    frame: &'f Fields,
+}
+
+impl<'f> Display for RefusedLogon<'f> {
+    fn fmt<W: fmt::Write>(&self, f: &mut Formatter<W>) -> fmt::Result {
+        let (tag, why) = reason_of(self.fault);
+        f.write_str("Logon refused: ")?;
+        if tag == 0 {
+            return f.write_str(why);
+        }
+        write!(f, "{tag}=")?;
+        if let Some(value) = self.frame.first(tag) {
+            write_shown(f, value)?;
+        }
+        write!(f, " {why}")
+    }
+}
+
+/// The tag that a fault is about, 0 of none, and what is wrong with it.
+fn reason_of(fault: LogonFault) -> (u32, &'static str) {
+    match fault {
+        LogonFault::Type => (35, "is no Logon"),
+        LogonFault::Sender => (49, "isn't this client's name"),
+        LogonFault::Target => (56, "isn't the gateway's name"),
+        LogonFault::Number => (34, "is no number from 1"),
+        LogonFault::Encryption => (98, "isn't 0"),
+        LogonFault::Interval => (108, "isn't 0 to 3600"),
+        LogonFault::ResetFlag => (141, "is neither Y nor N"),
+        LogonFault::Malformed => (0, "a tag stands twice, or has no value"),
+        LogonFault::ResetNumber => (34, "isn't 1, with 141=Y"),
+    }
+}
+
+/// That a login is rejected, with the market's letter.
+#[derive(Drop)]
+struct RejectedLogin<'p>(&'p Packet);
+
+impl<'p> Display for RejectedLogin<'p> {
+    fn fmt<W: fmt::Write>(&self, f: &mut Formatter<W>) -> fmt::Result {
+        f.write_str("login rejected: ")?;
+        write_shown(f, self.0.payload.as_slice())?;
+        f.write_str(match self.0.payload.as_slice() {
+            [b'A'] => ", user or password",
+            [b'S'] => ", no such session",
+            _ => "",
+        })
+    }
+}
+
+/// Writes bytes, with a dot for each that isn't printable ASCII.
+fn write_shown<W: fmt::Write>(f: &mut Formatter<W>, bytes: &[u8]) -> fmt::Result {
+    for byte in bytes {
+        f.write_char(match *byte {
+            32..=126 => char::from(*byte),
+            _ => '.',
+        })?;
+    }
+    Ok(())
+}

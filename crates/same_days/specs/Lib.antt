@@ -1,0 +1,2 @@
+pub mod Same
+pub use Rattle.gate_journal.specs.Kept

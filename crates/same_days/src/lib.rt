@@ -1,0 +1,7 @@
+//! Whether two days are the same: their events, and what came of each.
+#![tactic(auto)]
+
+mod comparing;
+
+pub use comparing::first_other;
+pub use gate_journal::History;

@@ -1,0 +1,2 @@
+mod Depths
+mod Joined

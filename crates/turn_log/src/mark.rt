@@ -1,0 +1,127 @@
+//! How far a history is in its log.
+
+ghost use Rattle.std.specs.Prelude.{◌≡◌, ◌++◌, drop, length, IfOk, OnOk};
+ghost use Rattle.journal_days.specs.Cut.{last_size, texts};
+ghost use Rattle.journal_pages.specs.Page.{page_front};
+ghost use Rattle.turn_log.specs.Since.{bytes_from, bytes_of, bytes_since, counted};
+
+use journal_days::DayRecords;
+use std::alloc::{AllocError, Global};
+
+/// What a page begins with: the journal's name and version.
+const PAGE_NAME: &[u8; 4] = b"GJ02";
+
+/// So many bytes stand before the records of a page.
+const FRONT: usize = 12;
+
+/// How far a history's pages are in its log: how many pages there are, how many bytes the last one has, and how many
+/// records all of them.
+#[derive(Clone, Copy, Debug, PartialEq, Eq)]
+pub(crate) struct Mark {
+    pub pages: usize,
+    pub bytes: usize,
+    pub records: u64,
+}
+
+/// Where these pages end, behind so many records. Takes no memory.
+pub(crate) fn mark_at(pages: &[Vec<u8>], records: u64) -> Mark
+    ensures pages { result.pages ≡ length pages.now }
+    ensures records { result.records ≡ records }
+{
+    let bytes = match pages.last() {
+        Some(last) => last.len(),
+        None => 0,
+    };
+    Mark {
+        pages: pages.len(),
+        bytes,
+        records,
+    }
+}
+
+/// How many records there are, as a number of 64 bits. Takes no memory.
+pub(crate) fn count(records: DayRecords<'_>) -> u64
+    ensures { result ≡ counted records.entry }
+{
+    let mut rest = records;
+    let mut count = 0u64;
+    while let Some((_, behind)) = rest.split_first() {
+        count = count.wrapping_add(1);
+        rest = behind;
+    }
+    count
+}
+
+/// A page of the records that these pages have behind a mark.
+pub(crate) fn page_since(
+    alloc: Global,
+    pages: &[Vec<u8>],
+    mark: &Mark,
+) -> Result<Vec<u8>, AllocError>
+    ensures { IfOk result (λ page. page.items
+        ≡ page_front mark.now.records ++ bytes_since mark.now.pages mark.now.bytes pages.now) }
+{
+    let mut page = Vec::new(alloc);
+    page.extend_from_slice(PAGE_NAME)?;
+    page.extend_from_slice(&mark.records.to_be_bytes())?;
+    append_since(&mut page, pages, mark.pages, mark.bytes)?;
+    Ok(page)
+}
+
+/// The records that these pages have behind so many, of the last of which so many bytes count.
+fn append_since(
+    out: &mut Vec<u8>,
+    pages: &[Vec<u8>],
+    count: usize,
+    bytes: usize,
+) -> Result<(), AllocError>
+    ensures { OnOk result (out.new.items ≡ out.old.items ++ bytes_since count bytes pages.now) }
+{
+    if count == 0 {
+        return append_pages(out, pages);
+    }
+    append_from(out, pages_behind(pages, count - 1), bytes)
+}
+
+/// The pages behind so many.
+fn pages_behind(pages: &[Vec<u8>], count: usize) -> &[Vec<u8>]
+    ensures { result.now ≡ drop count pages.now }
+{
+    match pages.get(count..) {
+        Some(rest) => rest,
+        None => &[],
+    }
+}
+
+/// The records of these pages, of the first one those behind so many of its bytes.
+fn append_from(out: &mut Vec<u8>, pages: &[Vec<u8>], bytes: usize) -> Result<(), AllocError>
+    ensures { OnOk result (out.new.items ≡ out.old.items ++ bytes_from bytes (texts pages.now)) }
+{
+    let Some((page, behind)) = pages.split_first() else {
+        return Ok(());
+    };
+    append_behind(out, page.as_slice(), bytes)?;
+    append_pages(out, behind)
+}
+
+/// The records of these pages.
+fn append_pages(out: &mut Vec<u8>, pages: &[Vec<u8>]) -> Result<(), AllocError>
+    ensures { OnOk result (out.new.items ≡ out.old.items ++ bytes_of (texts pages.now)) }
+{
+    let mut rest = pages;
+    while let Some((page, behind)) = rest.split_first() {
+        append_behind(out, page.as_slice(), FRONT)?;
+        rest = behind;
+    }
+    Ok(())
+}
+
+/// The bytes of a page behind so many.
+fn append_behind(out: &mut Vec<u8>, page: &[u8], bytes: usize) -> Result<(), AllocError>
+    ensures { OnOk result (out.new.items ≡ out.old.items ++ drop bytes page.now) }
+{
+    match page.get(bytes..) {
+        Some(rest) => out.extend_from_slice(rest),
+        None => Ok(()),
+    }
+}
