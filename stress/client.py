@@ -76,6 +76,7 @@ class Client:
 
     def connect(self, room=None):
         """A new connection, or None where nobody listens yet."""
+        self.connected = self.day.killed.value
         stream = socket.socket()
         if room:
             stream.setsockopt(socket.SOL_SOCKET, socket.SO_RCVBUF, room)
@@ -85,7 +86,6 @@ class Client:
             stream.close()
             return None
         self.dialled += 1
-        self.connected = self.day.killed.value
         return stream
 
     def dial(self, now):

@@ -503,7 +503,7 @@ class Day:
         self.is_so("json has what csv has", [{key: value for key, value in row.items() if value} for row in rows] == said)
         self.is_so("a message a line has as many", len(lines.stdout.splitlines()) == len(said)
                    and sum("C1 < 35=D|" in line for line in lines.stdout.splitlines()) == len(orders))
-        asked, filled = (sum((row["who"], row["way"], row.get("ouch")) == key for row in said)
+        asked, filled = (len({row["token"] for row in said if (row["who"], row["way"], row.get("ouch")) == key})
                          for key in (("P1", "out", "O"), ("P1", "in", "E")))
         self.is_so("each order was asked, and all but one filled", (asked, filled) == (len(orders), len(orders) - 1))
         everything = table.stdout + objects.stdout + lines.stdout

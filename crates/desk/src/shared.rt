@@ -269,6 +269,15 @@ impl<K: DeskName, S: BuildHasher + Drop> Shared<K, S> {
         self.ring_each(waiting);
     }
 
+    /// Makes the rounds that are wanted, where some are: a thread may have found the lock taken by one that makes none,
+    /// and left them to it. Whoever calls it each millisecond lets no event lie longer. Memory that is refused is told
+    /// by `is_memory_refused`.
+    pub fn turns_wanted(&self, alloc: Global) {
+        if self.wanted.load(Ordering::SeqCst) {
+            let _ = self.turns(alloc, 1, self);
+        }
+    }
+
     /// The outlets that were told something that may wait, once the lock could be had.
     fn take_waiting(&self, rt: &impl Wait) -> ToldOutlets {
         let mut guard = self.desk.lock(rt);

@@ -28,9 +28,9 @@ fn pause() -> Duration {
 }
 
 /// The system's time, which never goes back, and pauses of a millisecond. That of the worker that has time pass pauses
-/// between two rounds of ticks, and meanwhile has what may wait written, each millisecond. Once a second it puts how all
-/// stand onto the board. It also watches the clients, and ends the day where they are left alone: where a thread could
-/// not be had, say.
+/// between two rounds of ticks, and meanwhile has what may wait written, and rounds made that others left, each
+/// millisecond. Once a second it puts how all stand onto the board. It also watches the clients, and ends the day where
+/// they are left alone: where a thread could not be had, say.
 #[derive(Drop)]
 pub(crate) struct RunClock<'a, K: DeskName, R> {
     clock: SystemClock<'a, R>,
@@ -109,6 +109,7 @@ impl<'a, K: DeskName, R: Wait + time::Clock + Eprint> Watch<'a, K, R> {
         for _ in 0..BETWEEN_TICKS {
             clock.pause();
             self.shared.ring_waiting(self.rt);
+            self.shared.turns_wanted(self.alloc);
             self.show(clock.now_ms());
             if clock.now_ms() >= end {
                 break;
