@@ -71,6 +71,10 @@ class Client:
 
     # Links.
 
+    def is_killed(self, connected):
+        """Whether the gateway that took a connection at this count of kills is gone, or going: the count is odd while it is killed."""
+        return connected % 2 == 1 or connected != self.day.killed.value
+
     def may_lose(self):
         return self.stage.value == TRADING and self.dialled < self.day.links - SPARE
 
@@ -112,7 +116,7 @@ class Client:
     def take_spare(self):
         """The second connection, on which nothing may have come while there was a first."""
         stream, self.spare = self.spare, None
-        if stream and self.connected != self.day.killed.value:
+        if stream and self.is_killed(self.connected):
             stream.close()
             return None
         if stream and select.select([stream], [], [], 0)[0]:
@@ -172,7 +176,7 @@ class Client:
         """A link that is no longer open: whether it ended as it had to."""
         if not self.link or self.link.is_open:
             return
-        cut = self.link.was_cut or self.day.killed.value != self.killed
+        cut = self.link.was_cut or self.is_killed(self.killed)
         self.counts["links cut" if cut else "links that the gateway closed"] += 1
         if not cut and not self.session.ended and not self.may_be_closed:
             self.complain("the gateway closed the link without a word")
