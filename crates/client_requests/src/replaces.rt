@@ -33,11 +33,11 @@ use to_market::{ReplaceAsk, ask_of_replace, say_replace};
 /// What a replace of a client comes to, where so many reports were issued, of all clients, and its ClOrdID (11) is
 /// used already or isn't.
 ///
-/// `Refused`, by the first row that holds: its ClOrdID is used; its OrigClOrdID (41) names no order of the client;
-/// the order is closed; the port has ended or is faulted; a cancel of the order is pending, or four replaces; then those
-/// of `to_market::ask_of_replace` on what it says itself. Else it is pending from then on, takes the next token, and
-/// asks the market to replace the order that goes by the token of the newest pending replace, or, where none is
-/// pending, by its live one.
+/// `Refused`, by the first row that holds: its ClOrdID is used; its OrigClOrdID (41) names no order of the client; the
+/// order is closed; the port has ended or is faulted; a cancel of the order is pending, or four replaces; then those of
+/// `to_market::ask_of_replace` on what it says itself. Else it is pending from then on, takes the next token, and asks
+/// the market to replace the order that goes by the token of the newest pending replace, or, where none is pending, by
+/// its live one.
 ///
 /// It changes nothing. The one error is that memory ran out.
 ///

@@ -45,8 +45,8 @@ impl<'a, K: DeskName, R: Wait + time::Clock, S: BuildHasher + Drop> Clock
         self.last
     }
 
-    /// Until the bell rings, at the latest until the outlet's own moment of the span that runs: a span is `longest`, and
-    /// outlets' moments follow one another in it.
+    /// Until the bell rings, at the latest until the outlet's own moment of the span that runs: a span is `longest`,
+    /// and outlets' moments follow one another in it.
     fn pause(&mut self) {
         let most = match self.rt.since_1970() {
             Ok(since) => until_own_moment(since, self.longest, self.outlet),

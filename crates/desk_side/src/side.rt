@@ -191,8 +191,8 @@ impl Side {
         send_at(&mut self.ways, port, port_told);
     }
 
-    /// From now on what is said waits beside the rings until it is released. `AllocError` leaves some ways as they were:
-    /// it may be called again.
+    /// From now on what is said waits beside the rings until it is released. `AllocError` leaves some ways as they
+    /// were: it may be called again.
     pub fn stage(&mut self) -> Result<(), AllocError>
         ensures { self.new ≡ self.old }
     {

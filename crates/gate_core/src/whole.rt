@@ -208,9 +208,9 @@ impl<S: BuildHasher + Drop> Core<S> {
         self.parts.next_in(client)
     }
 
-    /// Whether this event gives anything, or may: `false` of a tick for which the session's table has no row just now, and
-    /// of one for a client or port that the settings don't have. Such a tick gives an empty batch, and changes no more
-    /// than the session's latest moment: whoever has time pass may leave it out. Takes no memory.
+    /// Whether this event gives anything, or may: `false` of a tick for which the session's table has no row just now,
+    /// and of one for a client or port that the settings don't have. Such a tick gives an empty batch, and changes no
+    /// more than the session's latest moment: whoever has time pass may leave it out. Takes no memory.
     pub fn is_due(&self, alloc: Global, event: &Event) -> bool
         ensures { (s : law.Settings) (before : History) → IsAfter s before self.now
             → result ≡ event_due s (lists s before) (event_seen event.now) }
@@ -218,8 +218,8 @@ impl<S: BuildHasher + Drop> Core<S> {
         self.parts.is_due(alloc, event)
     }
 
-    /// Why a frame of a client's link that isn't logged on is answered by the link's end alone; `None` of a Logon that is
-    /// answered, and of a client that the settings don't have. Takes no memory.
+    /// Why a frame of a client's link that isn't logged on is answered by the link's end alone; `None` of a Logon that
+    /// is answered, and of a client that the settings don't have. Takes no memory.
     ///
     /// Source: FIX 4.4 Volume 2, "Logon".
     pub fn logon_fault(&self, client: ClientNumber, frame: &Fields) -> Option<LogonFault>

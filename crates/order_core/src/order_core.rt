@@ -194,8 +194,8 @@ impl<S: BuildHasher + Drop> OrderCore<S> {
         }
     }
 
-    /// How many orders of a client aren't closed, as its reports have them. Takes no memory, and no time that grows with
-    /// orders.
+    /// How many orders of a client aren't closed, as its reports have them. Takes no memory, and no time that grows
+    /// with orders.
     ///
     /// Source: FIX 4.4 Volume 4, "Execution Report" (LeavesQty, OrdStatus).
     pub fn open_count(&self, client: u16) -> usize

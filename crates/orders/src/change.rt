@@ -16,7 +16,8 @@ pub enum Change {
         price: u32,
         is_dead: bool,
     },
-    /// Replaced: the same, under the token and the ClOrdID of its oldest pending replace. Nothing where none is pending.
+    /// Replaced: the same, under the token and the ClOrdID of its oldest pending replace. Nothing where none is
+    /// pending.
     Replaced {
         shares: u32,
         price: u32,
