@@ -1,11 +1,11 @@
-//! The streams that links are read from and written onto, and what their calls answered.
+//! The streams that links are read from and written to, and what their calls answered.
 
 use std::io::{self, Read, Write};
 
-/// A stream that bytes are read from, and what its reads answered. Every `Read` is one.
+/// A stream to read from, and what its reads answered. Every `Read` is one.
 ///
-/// `Read` has no word for a read that failed. Contracts say it by `did_read`, which nothing gives but a call: an engine
-/// is proved for any `Source`, so it can tell of no read that was not made, and of none another answer.
+/// `Read` has no word for a read that failed. Contracts say it by `did_read`, which only a call gives: an engine is
+/// proved for any `Source`, so it can't report a read that wasn't made, nor another answer.
 pub trait Source: Read {
     ghost use Rattle.std.specs.Prelude.{ℕ, Option, Some, None, IfOk, OnErr};
     ghost use Rattle.std.specs.Io.{ReadsAtMost};
@@ -30,8 +30,7 @@ impl<R: Read> Source for R {
     }
 }
 
-/// A stream that bytes are written onto, and what its writes answered. Every `Write` is one. Contracts say it by
-/// `did_write`, as they do of a `Source`.
+/// A stream to write to, and what its writes answered, by `did_write`. Every `Write` is one.
 pub trait Sink: Write {
     ghost use Rattle.std.specs.Prelude.{ℕ, List, Option, Some, None, IfOk, OnErr};
     ghost use Rattle.std.specs.Io.{WritesAtMost};
@@ -56,8 +55,8 @@ impl<W: Write> Sink for W {
     }
 }
 
-/// A stream that can also be written promptly, by writes that don't wait for a peer that reads nothing now. What such a
-/// write answered contracts say by `did_try`, which nothing gives but a call.
+/// A stream that can also be written promptly, by writes that don't wait for a peer that doesn't read. What such a
+/// write answered contracts say by `did_try`.
 pub trait Prompt: Write {
     ghost use Rattle.std.specs.Prelude.{ℕ, List, Option, Some, None, IfOk, OnErr};
     ghost use Rattle.std.specs.Io.{WritesAtMost};
@@ -67,8 +66,8 @@ pub trait Prompt: Write {
     // second.
     ghost did_try: { Self → List ℕ → Option ℕ → Self → Type 0 };
 
-    /// Writes once, as `write` does, and comes back soon: it fails where the peer takes nothing for a moment. After a
-    /// failure the stream is as before: `write` meets the failure again, where it is one that lasts.
+    /// Writes once, as `write` does, and returns soon: it fails if the peer takes nothing for a moment. After a failure
+    /// the stream is as before: `write` meets the failure again if it lasts.
     fn write_promptly(&mut self, buf: &[u8]) -> io::Result<usize>
         ensures bound { WritesAtMost result buf.now }
         ensures bytes { WriteAppends (Self.contents self.old) (Self.contents self.new) result buf.now }
