@@ -1,4 +1,4 @@
-//! What a payload of the market comes to.
+//! The result of a payload of the market.
 
 use crate::heard::Heard;
 use crate::market_fault::MarketFault;

@@ -21,8 +21,8 @@ use std::alloc::{AllocError, Global};
 use std::hash::BuildHasher;
 use to_client::{Occasion, push_report, report_of};
 
-/// What a new order comes to whose verdict is this message, where so many OrderIDs and ExecIDs were given, of all
-/// clients: it takes the next OrderID and the next token, waits for the market, and one Enter Order asks it.
+/// Accepts a new order whose verdict is this message, after `order_ids` OrderIDs and `exec_ids` ExecIDs of all clients:
+/// it takes the next OrderID and the next token, waits for the market, and one Enter Order asks for it.
 ///
 /// It changes nothing. The one error is that memory ran out.
 pub fn accept<S: BuildHasher + Drop>(

@@ -1,4 +1,4 @@
-//! What an accepted new order comes to.
+//! The result of accepting a new order.
 
 use client_requests::{AppBody, Order};
 use order_law::Inbound;
