@@ -22,7 +22,7 @@ use std::marker::Model;
 ///
 /// Clients are numbered from 1, in the order of their terms. OrderIDs, ExecIDs and token numbers each count from 1.
 /// `undo` puts back what was there at the last `settle`, and takes no memory: so where a step that this is part of
-/// can't be finished, be it for want of memory elsewhere, the order level is as before it. What is changed is kept
+/// can't be finished, be it for lack of memory elsewhere, the order level is as before it. What is changed is kept
 /// beside what it became until the next `settle`.
 ///
 /// ClOrdIDs are found by indexes over any hasher, which changes nothing but how fast they are found.
