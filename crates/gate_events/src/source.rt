@@ -1,4 +1,4 @@
-//! Whom an event comes from, and whom a batch is for.
+//! Whom an event comes from, and whom a batch has output for.
 
 ghost use Rattle.std.specs.Prelude.{◌≡◌, IfOk, map};
 ghost use Rattle.gate_events.specs.Seen.{batch_seen, link_out_seen};
@@ -22,7 +22,7 @@ pub enum Source {
     Clock,
 }
 
-/// Whom a batch tells something.
+/// Whom a batch has output for.
 #[derive(Clone, Copy, Debug, PartialEq, Eq)]
 pub enum Recipient {
     /// A client's link.
