@@ -21,7 +21,7 @@ pub(crate) struct Scanned {
     pub(crate) is_over: bool,
 }
 
-/// What comes next in a text, behind so many bytes that are skipped: a frame of so many bytes, where one is whole; else
+/// What comes next in a text, behind the bytes that are skipped: a frame of this size, if one is whole; else
 /// what has to wait for more, or too long a frame.
 #[derive(Clone, Copy)]
 pub(crate) struct Next {

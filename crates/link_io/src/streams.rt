@@ -11,7 +11,7 @@ pub trait Source: Read {
     ghost use Rattle.std.specs.Io.{ReadsAtMost};
     ghost use Rattle.std.specs.Io.KnownBytes.{ReadConsumes};
 
-    // A read of the first gave so many bytes, or failed where no number is said, and left the second.
+    // A read of the first gave this many bytes, or failed if there is no number, and left the second.
     ghost did_read: { Self → Option ℕ → Self → Type 0 };
 
     /// Reads once: what `read` does.
@@ -36,7 +36,7 @@ pub trait Sink: Write {
     ghost use Rattle.std.specs.Io.{WritesAtMost};
     ghost use Rattle.std.specs.Io.KnownBytes.{WriteAppends};
 
-    // A write of these bytes onto the first took so many, or failed where no number is said, and left the second.
+    // A write of these bytes to the first took this many, or failed if there is no number, and left the second.
     ghost did_write: { Self → List ℕ → Option ℕ → Self → Type 0 };
 
     /// Writes once: what `write` does.
@@ -62,7 +62,7 @@ pub trait Prompt: Write {
     ghost use Rattle.std.specs.Io.{WritesAtMost};
     ghost use Rattle.std.specs.Io.KnownBytes.{WriteAppends};
 
-    // A prompt write of these bytes onto the first took so many, or failed where no number is said, and left the
+    // A prompt write of these bytes to the first took this many, or failed if there is no number, and left the
     // second.
     ghost did_try: { Self → List ℕ → Option ℕ → Self → Type 0 };
 

@@ -31,7 +31,7 @@ pub struct Acceptor<'a, R> {
 }
 
 impl<'a, R> Acceptor<'a, R> {
-    /// Of so many links at this address, until `is_over` is set. Binds at the first of them. Takes no memory.
+    /// For this many links at an address, until `is_over` is set. Binds at the first of them. Takes no memory.
     pub fn new(
         rt: &'a R,
         address: &'a str,

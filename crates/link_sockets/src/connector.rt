@@ -30,7 +30,7 @@ pub struct Connector<'a, R> {
 }
 
 impl<'a, R> Connector<'a, R> {
-    /// Of so many links to this address, until `is_over` is set. Takes no memory.
+    /// For this many links to an address, until `is_over` is set. Takes no memory.
     pub fn new(
         rt: &'a R,
         address: &'a str,

@@ -10,7 +10,7 @@ use crate::order::ToldTrade;
 /// Source: OUCH 4.2, "Outbound Messages".
 #[derive(Clone, Copy)]
 pub enum Change {
-    /// Accepted: it is in the book with so many shares at a price in 1/10,000, or dead at once.
+    /// Accepted: it is in the book with these shares at a price in 1/10,000, or dead at once.
     Opened {
         shares: u32,
         price: u32,
@@ -23,7 +23,7 @@ pub enum Change {
         price: u32,
         is_dead: bool,
     },
-    /// Canceled: so many shares fewer are open.
+    /// Canceled: these shares are open no more.
     Canceled(u32),
     /// Executed: one trade more.
     Traded(ToldTrade),

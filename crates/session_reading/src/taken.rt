@@ -84,7 +84,7 @@ fn until(last: u64, to: u64) -> u64
     if to == 0 || last < to { last } else { to }
 }
 
-/// What the message with the expected number brings, where so many numbers were given.
+/// The answer to the message with the expected number, after `last` numbers were given.
 pub fn judge_taken(m: &Fields, last: u64) -> Taken
     ensures answer { answer_by (table.expected_rows last m.now) ≡ taken_answer m.now result }
     ensures fits { TakenFits m.now last result }

@@ -14,9 +14,9 @@ use std::marker::Model;
 #[derive(Drop)]
 pub struct StreamBuffer {
     bytes: Vec<u8>,
-    // so many bytes in front were let go
+    // how many bytes in front were dropped
     start: usize,
-    // so many bytes are held or were let go; those behind are offered
+    // how many bytes are held or were dropped; those behind are offered
     taken: usize,
     copied: u64,
     fed: u64,

@@ -217,7 +217,7 @@ fn is_other_text(given: &Option<Text>, kept: &[u8]) -> bool
     }
 }
 
-/// The token after so many.
+/// The next token after this many.
 fn token_after(given: u64) -> Result<Token, Refusal>
     ensures { MatchResult result
         (λ token. (nat_le last_token given ≡ false) × (token ≡ token_text (given + 1)))
