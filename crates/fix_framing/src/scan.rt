@@ -78,7 +78,7 @@ pub(crate) fn scan(alloc: Global, text: &[u8]) -> Result<Scanned, AllocError>
     }
 }
 
-/// Takes a piece behind what is held, and lets go the frames and what is skipped. An error leaves the buffer as it was.
+/// Takes a piece behind what is held, and drops the frames and what is skipped. An error leaves the buffer as it was.
 pub(crate) fn scan_in(
     alloc: Global,
     buffer: &mut StreamBuffer,

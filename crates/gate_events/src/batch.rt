@@ -25,11 +25,11 @@ pub struct Batch {
     /// Each report and reject as it was issued, with its number, be its frame written or not: the fields from MsgType
     /// (35) on.
     pub reports: ShortList<IssuedReport>,
-    /// What the client's link is told, in order.
+    /// The output to the client's link, in order.
     pub client_out: ShortList<LinkOut>,
     /// The port that something is for, where there is one.
     pub port: Option<PortNumber>,
-    /// What the port's link is told, in order.
+    /// The output to the port's link, in order.
     pub port_out: ShortList<LinkOut>,
     /// The fault of the port's packet or payload: the port stays closed.
     pub fault: Option<PortFault>,

@@ -34,7 +34,7 @@ pub fn on_canceled(
     })
 }
 
-/// What its client is told, where it is lawful.
+/// The bodies for its client, if it is lawful.
 fn tell_canceled(
     alloc: Global,
     issued: u64,

@@ -36,7 +36,7 @@ pub fn on_executed(
     })
 }
 
-/// What its client is told, where it is lawful.
+/// The bodies for its client, if it is lawful.
 fn tell_executed(
     alloc: Global,
     issued: u64,

@@ -17,7 +17,7 @@ pub struct Heard {
     ghost few: { length bodies.items ≤ 6 },
 }
 
-/// Why nothing comes of a message.
+/// Why a message isn't handled.
 #[derive(Clone, Copy, Debug, PartialEq, Eq, Drop, Error)]
 pub enum RowFault {
     #[error("out of memory")]

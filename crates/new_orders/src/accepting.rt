@@ -83,7 +83,7 @@ fn entered<S: BuildHasher + Drop>(
     )
 }
 
-/// What is told of an order that waits for the market: one report. It is put into its list at once, since it is large.
+/// The one report of an order that waits for the market. It is put into its list at once, since it is large.
 fn report_pending(alloc: Global, number: u64, order: &Order) -> Result<Vec<AppBody>, AllocError>
     ensures { IfOk result (λ bodies. map body_fields bodies.items
         ≡ law.report number (law.plain (codes "A")) (shown_as order.now) ∷ []) }

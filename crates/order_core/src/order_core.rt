@@ -137,7 +137,7 @@ impl<S: BuildHasher + Drop> OrderCore<S> {
 
     /// Steps a payload that a market port's session gave.
     ///
-    /// What the market says of an order changes it and is told to its client, in order; what it answers isn't
+    /// What the market says of an order changes it and is reported to its client, in order; what it answers isn't
     /// outstanding any more. Any fault leaves the core as it was. The faults, the first that holds: `OutsideProfile`
     /// (a type that isn't known), `Undecodable` (another length than its type's, a field outside its set, or no byte
     /// at all), `UnknownToken` (no order of this port has it), `NotLawful` (it doesn't fit how the order stands).
