@@ -16,8 +16,8 @@ use std::marker::Model;
 /// It is cut once a list found no room: that list and each later one stand in the history alone, so what comes out of
 /// the queue stays a beginning of what there was.
 ///
-/// A way that stages keeps lists beside its queue, where nobody can take them, until they are released: then they go
-/// into the queue, in their order. Contracts see what is staged as what went in, and its places as no longer free.
+/// A way that stages keeps lists beside its ring, where nobody can take them, until they are released: then they go
+/// into the ring, in their order. Contracts see what is staged as what went in, and its places as no longer free.
 #[derive(Drop)]
 pub struct Way {
     to: Recipient,
