@@ -72,6 +72,8 @@ impl<K: DeskName, S: BuildHasher + Drop> Shared<K, S> {
     ghost use Rattle.desk_steps.specs.gate_journal.Kept.{turns};
     ghost use Rattle.desk_steps.specs.Agreeing.{AreNamed};
     ghost use Rattle.desk_steps.specs.Settling.{AreSettled};
+    ghost use Rattle.host_log.specs.Left.{host_may_leave, host_seen};
+    ghost use Rattle.turn_log.specs.Kept.{HasAll};
 
     /// This desk, to be shared, with the bells of its outlets.
     pub(crate) fn new(desk: Desk<K, S>, bells: Vec<Parker>) -> Shared<K, S> {
@@ -231,20 +233,22 @@ impl<K: DeskName, S: BuildHasher + Drop> Shared<K, S> {
         self.is_lost.load(Ordering::SeqCst)
     }
 
-    /// From now on what is stepped is in this log, durably, before anybody is told, once the lock could be had. The log
-    /// has all of the history so far. `AllocError` gives the log up.
-    pub fn begin_journal(&self, rt: &impl Wait, log: DayLog<HostFile>) -> Result<(), AllocError> {
+    /// Goes on with a log that has this day, once the lock could be had: where the history has just the day's events and
+    /// batches, what is stepped from now on is in the log, durably, before anybody is told.
+    ///
+    /// Else nothing is done, and it gives how many batches are the same before the first that differs. `AllocError`
+    /// gives the log up.
+    pub fn go_on(
+        &self,
+        rt: &impl Wait,
+        log: DayLog<HostFile>,
+        day: &History,
+    ) -> Result<Option<u64>, AllocError>
+        requires has { HasAll host_seen host_may_leave day.now.pages log.file }
+    {
         let mut guard = self.desk.lock(rt);
         let desk = &mut *guard;
-        desk.begin_journal(log)
-    }
-
-    /// `None` where the history has just the events and the batches of this day; else how many batches are the same
-    /// before the first that differs. It waits for the lock.
-    pub fn first_other(&self, rt: &impl Wait, day: &History) -> Option<u64> {
-        let guard = self.desk.lock(rt);
-        let desk = &*guard;
-        desk.first_other(day)
+        desk.go_on(log, day)
     }
 
     /// A round, and the outlets that it told something: nobody's bell rings, and nothing is written. For who steps a

@@ -4,7 +4,7 @@ use Rattle.std.proofs.lemmas.Bool.Decides.{eqb_tells}
 use Rattle.std.proofs.lemmas.Option.{slice_get-get_or, slice_get_within}
 use Rattle.std.proofs.lemmas.List.{append-nil}
 use mathlib.Core.List.{IsPrefix}
-use Rattle.desk_ends.specs.Seats.{WayState, WaysLooked}
+use Rattle.desk_ends.specs.Seats.{WayMayRelease, WayMayStage, WayState, WaysLooked, WaysMayRelease, WaysMayStage}
 use Rattle.desk_ends.proofs.Places.{get-inside, get-same, get-set-other, get-set-same, length-set}
 use Rattle.desk_side.specs.Side.{ChangesAt}
 
@@ -80,5 +80,33 @@ pub ways-twice : (x y z : List WayState) → WaysLooked x y → WaysLooked y z �
 ways-twice x y z p q = record {
   count = q.count ∙ p.count;
   each = λ d w at. let v = p.each d w at in let u = q.each d v.0 v.1 in
-      (u.0, u.1, (u.2.0 ∙ v.2.0, u.2.1 ∙ v.2.1, u.2.2 ∙ v.2.2, omega (arith, v.2.3, u.2.3)));
+      (u.0, u.1, (u.2.0 ∙ v.2.0, u.2.1 ∙ v.2.1, u.2.2 ∙ v.2.2, omega (arith, v.2.3, u.2.3), u.2.4 ∙ v.2.4, u.2.5 ∙ v.2.5));
+}
+
+-- ---- ways that stage, and that release
+
+pub way-may-stage : (w : WayState) → WayMayStage w w
+way-may-stage w = (refl, refl, refl, omega arith, refl, λ so. so)
+
+pub ways-may-stage : (ways : List WayState) → WaysMayStage ways ways
+ways-may-stage ways = record { count = refl; each = λ d w at. (w, at, way-may-stage w) }
+
+pub stage-twice : (x y z : List WayState) → WaysMayStage x y → WaysMayStage y z → WaysMayStage x z
+stage-twice x y z p q = record {
+  count = q.count ∙ p.count;
+  each = λ d w at. let v = p.each d w at in let u = q.each d v.0 v.1 in
+      (u.0, u.1, (u.2.0 ∙ v.2.0, u.2.1 ∙ v.2.1, u.2.2 ∙ v.2.2, omega (arith, v.2.3, u.2.3), u.2.4 ∙ v.2.4, λ so. u.2.5 (v.2.5 so)));
+}
+
+pub way-may-release : (w : WayState) → WayMayRelease w w
+way-may-release w = (refl, refl, refl, omega arith, refl)
+
+pub ways-may-release : (ways : List WayState) → WaysMayRelease ways ways
+ways-may-release ways = record { count = refl; each = λ d w at. (w, at, way-may-release w) }
+
+pub release-twice : (x y z : List WayState) → WaysMayRelease x y → WaysMayRelease y z → WaysMayRelease x z
+release-twice x y z p q = record {
+  count = q.count ∙ p.count;
+  each = λ d w at. let v = p.each d w at in let u = q.each d v.0 v.1 in
+      (u.0, u.1, (u.2.0 ∙ v.2.0, u.2.1 ∙ v.2.1, u.2.2 ∙ v.2.2, omega (arith, v.2.3, u.2.3), u.2.4 ∙ v.2.4));
 }
