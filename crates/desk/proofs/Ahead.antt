@@ -7,20 +7,21 @@ use Rattle.journal_pages.specs.declared.version.Version.TheVariants.{Two}
 use Rattle.desk_steps.specs.gate_journal.Cut.{IsMoreOf}
 use Rattle.desk_steps.specs.gate_journal.Day.{day_records}
 use Rattle.desk_steps.specs.gate_journal.Kept.{Kept, kept_in, lists_kept}
-use Rattle.desk_ends.specs.Rings.{NamedInlet, NamedOutlet}
+use Rattle.gate_events.specs.declared.source.Recipient.{Recipient}
+use Rattle.desk_ends.specs.Rings.{Done, NamedInlet, NamedOutlet}
 use Rattle.desk_ends.specs.Seats.{AllReleased, AllStage, WayMayRelease, WayMayStage, WayState, WaysMayRelease, WaysMayStage}
 use Rattle.desk_steps.specs.desk_side.Side.{SideState}
 use Rattle.desk_steps.specs.Agreeing.{Agrees, DeskState}
 use Rattle.desk_steps.specs.Recorded.{Recorded}
-use Rattle.desk_steps.specs.Settling.{WayHolds, WaysHold}
+use Rattle.desk_steps.specs.Settling.{AreReleased, WayHolds, WaysHold}
 use Rattle.desk_steps.proofs.Onward.{Onward}
 use Rattle.desk_steps.proofs.Draining.{more-twice}
-use Rattle.desk_side.proofs.Moves.{come-to, prefix-trans}
+use Rattle.desk_side.proofs.Moves.{come-to, prefix-same, prefix-trans}
 use Rattle.host_log.specs.declared.host_file.HostFile.{HostFile}
 use Rattle.host_log.specs.Left.{host_may_leave, host_seen}
 use Rattle.turn_log.specs.Kept.{HasAll, HasDay, StandsAt, TurnLogState}
 use Rattle.turn_log.proofs.Keeping.{all-has}
-use Rattle.desk.specs.Ahead.{AreToldFrom, IsWrittenAhead, KeepsAhead}
+use Rattle.desk.specs.Ahead.{AreToldFrom, IsWrittenAhead, KeepsAhead, ToldIsKept}
 
 -- ---- steps
 
@@ -30,6 +31,7 @@ told-on history old new holds told d v at =
     let was = told d w.0 w.1 in (
       w.2.1 ∙ was.0,
       rw (w.2.0, w.2.2 was.0) was.1,
+      prefix-trans v.released w.0.sent v.sent (subst (λ z. IsPrefix z w.0.sent) (sym (w.2.2 was.0)) was.2) w.2.3,
     )
 
 pub ahead-on : (journal : Option (TurnLogState HostFile)) (s t : DeskState) → Onward s t → KeepsAhead journal s → KeepsAhead journal t
@@ -65,6 +67,7 @@ module _ (inlets : List NamedInlet) (outlets : List NamedOutlet) (r : Recorded) 
         let w = come-to WayMayRelease s.ways t.ways release.count release.each d v at in (
           w.2.4 ∙ (told d w.0 w.1).0,
           rw (all d v at) (sent-told d w.0 v w.1 w.2.0 w.2.1),
+          subst (λ z. IsPrefix z v.sent) (sym (all d v at)) (prefix-same v.sent),
         );
   }
 
@@ -76,7 +79,7 @@ module _ (inlets : List NamedInlet) (outlets : List NamedOutlet) (r : Recorded) 
     told = λ d v at.
         let w = come-to WayMayStage s.ways t.ways stage.count stage.each d v at in
         let is = all d v at in
-        (is.0, prefix-trans v.released v.sent (lists_to v.name.to (kept_in r.kept.pages).batches) is.1 (sent-told d w.0 v w.1 w.2.0 w.2.1));
+        (is.0, prefix-trans v.released v.sent (lists_to v.name.to (kept_in r.kept.pages).batches) is.1 (sent-told d w.0 v w.1 w.2.0 w.2.1), is.1);
   }
 
 -- ways that may stage, of a desk that has a journal or none
@@ -90,7 +93,7 @@ may-stage-ahead (Some log) r s t stage ahead = record {
   told = λ d v at.
       let w = come-to WayMayStage s.ways t.ways stage.count stage.each d v at in
       let was = ahead.told d w.0 w.1 in
-      (w.2.5 was.0, rw (w.2.0, w.2.4) was.1);
+      (w.2.5 was.0, rw (w.2.0, w.2.4) was.1, rw (w.2.1, w.2.4) was.2);
 }
 
 -- ---- the journal alone
@@ -101,3 +104,30 @@ journal-ahead old new s kept ahead = record { history = ahead.history; has = kep
 
 pub begun-day : (history : List (List ℕ)) (log : TurnLogState HostFile) → StandsAt history log → HasAll host_seen host_may_leave history log.file → HasDay host_seen host_may_leave history log
 begun-day history log mark all = record { mark = mark; has = all-has host_seen host_may_leave history log.file log.shut all }
+
+-- ---- the end
+
+-- what finished outlets took is released still
+pub released-on : (history : List (List ℕ)) (finished : List Done) (old new : List WayState) → AreToldFrom history old → WaysMayRelease old new → AllReleased new → AreReleased finished old → AreReleased finished new
+released-on history finished old new told release all took i d to lists at =
+    let was = took i d to lists at in
+    let w = was.0 in
+    let own = told d w was.1 in
+    let v = release.each d w was.1 in (
+      v.0,
+      v.1,
+      ap (λ (n : NamedOutlet). n.to) v.2.0 ∙ was.2,
+      λ so. subst (λ z. IsPrefix lists z) (sym (all d v.0 v.1 ∙ v.2.1)) (prefix-trans lists w.released w.sent (was.3 own.0) own.2),
+    )
+
+pub kept-tells : (finished : List Done) (journal : Option (TurnLogState HostFile)) (s : DeskState) → KeepsAhead journal s → AreReleased finished s.side.ways → ToldIsKept finished journal
+kept-tells finished None s ahead took = tt
+kept-tells finished (Some log) s ahead took = record {
+  history = ahead.history;
+  left = ahead.has.has.left;
+  told = λ i d to lists at.
+      let was = took i d to lists at in
+      let own = ahead.told d was.0 was.1 in
+      let tells = prefix-trans lists was.0.released (lists_to was.0.name.to (kept_in ahead.history).batches) (was.3 own.0) own.1 in
+      subst (λ (z : Recipient). IsPrefix lists (lists_to z (kept_in ahead.history).batches)) was.2 tells;
+}

@@ -51,17 +51,19 @@ impl<K: DeskName, S: BuildHasher + Drop> Model for Desk<K, S> {
         × KeepsAhead d.journal (record { recorded = d.recorded; side = d.side }) };
 }
 
-/// What is left of a desk that was closed: its history, the settings of its core, and why its journal doesn't have all,
-/// if it had one that doesn't.
+/// What is left of a desk that was closed: its history, the settings of its core, its journal, if it had one, and why
+/// that doesn't have all, if it doesn't.
 #[derive(Drop)]
 pub struct Closed {
     pub history: History,
     pub settings: Settings,
+    pub journal: Option<TurnLog<HostFile>>,
     pub lost: Option<LogFault>,
 }
 
 impl<K: DeskName, S: BuildHasher + Drop> Desk<K, S> {
-    ghost use Rattle.std.specs.Prelude.{◌≡◌, IfOk, MatchOption, OnOk, OnErr};
+    ghost use Rattle.std.specs.Prelude.{◌≡◌, IfOk, List, MatchOption, OnOk, OnErr};
+    ghost use Rattle.desk.specs.Ahead.{ToldIsKept};
     ghost use Rattle.same_days.specs.Same.{IsOtherAt, IsSameDay};
     ghost use Rattle.gate_law.specs.After.{lists};
     ghost use Rattle.gate_law.specs.Holds.{Holds};
@@ -70,7 +72,8 @@ impl<K: DeskName, S: BuildHasher + Drop> Desk<K, S> {
     ghost use Rattle.gate_events.specs.Seen.{event_seen};
     ghost use Rattle.desk_steps.specs.gate_journal.Kept.{turns};
     ghost use Rattle.desk_steps.specs.Agreeing.{Agrees, AreNamed};
-    ghost use Rattle.desk_steps.specs.Settling.{AreSettled, HistoryGoesOn};
+    ghost use Rattle.desk_ends.specs.Rings.{Done};
+    ghost use Rattle.desk_steps.specs.Settling.{AreReleased, AreSettled, HistoryGoesOn};
     ghost use Rattle.desk_steps.specs.Turning.{RoundIsRefused, Rounds};
     ghost use Rattle.host_log.specs.Left.{host_may_leave, host_seen};
     ghost use Rattle.turn_log.specs.Kept.{HasAll};
@@ -104,6 +107,8 @@ impl<K: DeskName, S: BuildHasher + Drop> Desk<K, S> {
     /// leaves all as it was.
     pub(crate) fn keep(&mut self, alloc: Global) -> Result<(), LogFault>
         ensures recorded { self.new.recorded ≡ self.old.recorded }
+        ensures released { (finished : List Done) → AreReleased finished self.old.side.ways
+            → AreReleased finished self.new.side.ways }
     {
         let Some(journal) = &mut self.journal else {
             return Ok(());
@@ -120,7 +125,7 @@ impl<K: DeskName, S: BuildHasher + Drop> Desk<K, S> {
 
     /// Ends the journal, where there is one: it has all, and its end.
     pub(crate) fn end_journal(&mut self) -> Result<(), LogFault>
-        ensures recorded { self.new.recorded ≡ self.old.recorded }
+        ensures { self.new ≡ self.old }
     {
         match &mut self.journal {
             Some(journal) => journal.end(),
@@ -226,6 +231,7 @@ impl<K: DeskName, S: BuildHasher + Drop> Desk<K, S> {
         ensures same { finished.new.items ≡ finished.old.items }
         ensures goes_on { HistoryGoesOn self.old.recorded self.new.recorded }
         ensures settled { OnOk result (AreSettled finished.old.items self.new.recorded.kept) }
+        ensures released { AreReleased finished.old.items self.new.side.ways }
     {
         settle(&mut self.recorded, &mut self.side, alloc, finished)
     }
@@ -236,17 +242,20 @@ impl<K: DeskName, S: BuildHasher + Drop> Desk<K, S> {
         ensures settings { result.settings ≡ self.recorded.settings }
         ensures holds { Holds result.settings (turns result.history) }
         ensures named { AreNamed K.inlets result.history.events }
+        ensures told { (finished : List Done) → AreReleased finished self.side.ways
+            → ToldIsKept finished result.journal }
     {
         let Desk {
             recorded,
             side: _,
-            journal: _,
+            journal,
             of: _,
         } = self;
         let (settings, history) = recorded.into_parts();
         Closed {
             history,
             settings,
+            journal,
             lost,
         }
     }

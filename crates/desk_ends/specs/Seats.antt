@@ -109,10 +109,11 @@ abbrev pub AllReleased : List WayState → Type 0
 AllReleased ways = (d : ℕ) (w : WayState) → slice_get ways d ≡ Some w → w.released ≡ w.sent
 
 -- What an end that has finished says is what the desk's end of its ring knows: an inlet put what came out and what is
--- known to lie there still, and an outlet took a beginning of what went in.
+-- known to lie there still, and an outlet took a beginning of what was sent, and of what was released.
 abbrev pub IsBorneOut : Done → List SeatState → List WayState → Type 0
 IsBorneOut (put_at k source events) seats ways =
     (a : SeatState) × (slice_get seats k ≡ Some a) × (a.name.source ≡ source)
     × (a.gave ++ a.known ≡ events) × (events_from source events ≡ events)
 IsBorneOut (took_at d to lists) seats ways =
     (w : WayState) × (slice_get ways d ≡ Some w) × (w.name.to ≡ to) × IsPrefix lists w.sent
+    × IsPrefix lists w.released

@@ -8,7 +8,7 @@ ghost use Rattle.desk_side.specs.desk_ends.Ends.{inlet_of};
 ghost use Rattle.desk_side.specs.desk_ends.Seats.{SeatState, SeatsLooked, WaysLooked, seat_name, way_name};
 ghost use Rattle.desk_steps.specs.Agreeing.{Agrees};
 ghost use Rattle.desk_steps.specs.Settling.{AreBegun, AreDrained, AreSettled, AreTold, HistoryGoesOn, KnowsNone};
-ghost use Rattle.desk_steps.specs.Settling.{Shrinks, WaysHold};
+ghost use Rattle.desk_steps.specs.Settling.{AreReleased, Shrinks, WaysHold};
 ghost use Rattle.desk_steps.specs.Turning.{Drops, StepsFirst};
 
 use crate::recorded::RecordedCore;
@@ -141,6 +141,7 @@ pub fn settle<K: DeskName, S: BuildHasher + Drop>(
     ensures same { finished.new.items ≡ finished.old.items }
     ensures goes_on { HistoryGoesOn recorded.old recorded.new }
     ensures holds { WaysHold side.old.ways side.new.ways }
+    ensures released { AreReleased finished.old.items side.new.ways }
     ensures settled { OnOk result (AreSettled finished.old.items recorded.new.kept) }
 {
     compare_all(side, finished);

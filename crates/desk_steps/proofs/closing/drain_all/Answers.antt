@@ -39,3 +39,9 @@ returns-in_err-drain_end-clause-agrees g c = λ inlets outlets h. c.drain_end.en
 
 pub returns-clause-none : goal.returns-clause-none
 returns-clause-none g c = λ i f k at is. c.loop-i.invariant.none i f k (omega (arith, slice_get_within c.args.finished.now.items i f at)) at is
+
+pub returns-in_err-drain_end-clause-goes_on : goal.returns-in_err-drain_end-clause-goes_on
+returns-in_err-drain_end-clause-goes_on g c = goes-further c.args.recorded.now c.loop-i.recorded c.drain_end.new.recorded c.loop-i.invariant.goes_on c.drain_end.ensures.goes_on
+
+pub returns-in_err-drain_end-clause-holds : goal.returns-in_err-drain_end-clause-holds
+returns-in_err-drain_end-clause-holds g c = holds-twice c.args.side.now.ways c.loop-i.side.ways c.drain_end.new.side.ways c.loop-i.invariant.holds c.drain_end.ensures.holds
