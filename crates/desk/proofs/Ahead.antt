@@ -18,19 +18,25 @@ use Rattle.desk_steps.proofs.Onward.{Onward}
 use Rattle.desk_steps.proofs.Draining.{more-twice}
 use Rattle.desk_side.proofs.Moves.{come-to, prefix-same, prefix-trans}
 use Rattle.host_log.specs.declared.host_file.HostFile.{HostFile}
-use Rattle.host_log.specs.Left.{host_may_leave, host_seen}
+use Rattle.host_log.specs.Seen.{host_may_leave, host_seen}
 use Rattle.turn_log.specs.Kept.{HasAll, HasDay, StandsAt, TurnLogState}
 use Rattle.turn_log.proofs.Keeping.{all-has}
 use Rattle.desk.specs.Ahead.{AreToldFrom, IsWrittenAhead, KeepsAhead, ToldIsKept}
 
 -- ---- steps
 
+told-same : (history : List (List ℕ)) (w v : WayState) → v.name ≡ w.name → v.released ≡ w.released → IsPrefix w.released (lists_to w.name.to (kept_in history).batches) → IsPrefix v.released (lists_to v.name.to (kept_in history).batches)
+told-same history w v name released told = rw (name, released) told
+
+ahead-same : (w v : WayState) → v.sent ≡ w.sent → v.released ≡ w.released → IsPrefix w.released w.sent → IsPrefix v.released v.sent
+ahead-same w v sent released ahead = rw (sent, released) ahead
+
 told-on : (history : List (List ℕ)) (old new : List WayState) → WaysHold old new → AreToldFrom history old → AreToldFrom history new
 told-on history old new holds told d v at =
     let w = come-to WayHolds old new holds.count holds.each d v at in
     let was = told d w.0 w.1 in (
       w.2.1 ∙ was.0,
-      rw (w.2.0, w.2.2 was.0) was.1,
+      told-same history w.0 v w.2.0 (w.2.2 was.0) was.1,
       prefix-trans v.released w.0.sent v.sent (subst (λ z. IsPrefix z w.0.sent) (sym (w.2.2 was.0)) was.2) w.2.3,
     )
 
@@ -93,7 +99,7 @@ may-stage-ahead (Some log) r s t stage ahead = record {
   told = λ d v at.
       let w = come-to WayMayStage s.ways t.ways stage.count stage.each d v at in
       let was = ahead.told d w.0 w.1 in
-      (w.2.5 was.0, rw (w.2.0, w.2.4) was.1, rw (w.2.1, w.2.4) was.2);
+      (w.2.5 was.0, told-same ahead.history w.0 v w.2.0 w.2.4 was.1, ahead-same w.0 v w.2.1 w.2.4 was.2);
 }
 
 -- ---- the journal alone

@@ -12,7 +12,7 @@ use Rattle.desk_ends.specs.Rings.{Done, took_at}
 use Rattle.desk_ends.specs.Seats.{WayState}
 use Rattle.desk_steps.specs.Agreeing.{DeskState}
 use Rattle.host_log.specs.declared.host_file.HostFile.{HostFile}
-use Rattle.host_log.specs.Left.{host_may_leave, host_seen}
+use Rattle.host_log.specs.Seen.{host_may_leave, host_seen}
 use Rattle.turn_log.specs.Kept.{HasDay, LeavesAll, TurnLogState}
 
 -- What lies in the ring of each way, or was taken out of it, is a beginning of what a history tells its recipient; the

@@ -75,7 +75,7 @@ impl<K: DeskName, S: BuildHasher + Drop> Desk<K, S> {
     ghost use Rattle.desk_ends.specs.Rings.{Done};
     ghost use Rattle.desk_steps.specs.Settling.{AreReleased, AreSettled, HistoryGoesOn};
     ghost use Rattle.desk_steps.specs.Turning.{RoundIsRefused, Rounds};
-    ghost use Rattle.host_log.specs.Left.{host_may_leave, host_seen};
+    ghost use Rattle.host_log.specs.Seen.{host_may_leave, host_seen};
     ghost use Rattle.turn_log.specs.Kept.{HasAll};
 
     /// A desk of parts that agree.

@@ -75,7 +75,7 @@ impl<K: DeskName, S: BuildHasher + Drop> Shared<K, S> {
     ghost use Rattle.desk_steps.specs.Agreeing.{AreNamed};
     ghost use Rattle.desk_steps.specs.Settling.{AreSettled};
     ghost use Rattle.desk.specs.Ahead.{ToldIsKept};
-    ghost use Rattle.host_log.specs.Left.{host_may_leave, host_seen};
+    ghost use Rattle.host_log.specs.Seen.{host_may_leave, host_seen};
     ghost use Rattle.turn_log.specs.Kept.{HasAll};
 
     /// This desk, to be shared, with the bells of its outlets.

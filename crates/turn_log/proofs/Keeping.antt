@@ -11,7 +11,7 @@ use Rattle.journal_pages.specs.Record.{Record, records_in}
 use Rattle.journal_pages.specs.Page.{page_front, page_records}
 use Rattle.journal_days.specs.Cut.{IsMoreOf, last_size, texts}
 use Rattle.journal_days.specs.Day.{day_fault, day_records}
-use Rattle.journal_file.specs.File.{sized_pages}
+use Rattle.day_log.specs.File.{sized_pages}
 use Rattle.day_log.specs.Log.{IsSettled, LeavesAtLeast}
 use Rattle.day_log.specs.State.{LogState}
 use Rattle.day_log.specs.declared.fault.LogFault.{LogFault}

@@ -39,6 +39,7 @@ impl<F: LogFile> TurnLog<F> {
         ensures file { result.file ≡ log.file }
         ensures shut { result.shut ≡ log.shut }
         ensures mark { StandsAt history.now.pages result }
+        ensures history { history.now ≡ kept_in history.now.pages }
     {
         let pages = history.pages();
         TurnLog {

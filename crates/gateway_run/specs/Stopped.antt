@@ -1,0 +1,23 @@
+-- A day that stopped: what its file has. (Own.)
+use Rattle.std.specs.Prelude.{◌≡◌, ◌⊎◌, ℕ, true, List, length}
+use Rattle.gate_journal.specs.Kept.{Kept}
+use Rattle.journal_file.specs.declared.ending.Ending.{Ending}
+use Rattle.journal_file.specs.declared.ending.Ending.TheVariants.{GoesOn, Over, Torn}
+use Rattle.journal_file.specs.File.{stands_at}
+use Rattle.journal_file.specs.Said.{Says}
+use Rattle.journal_pages.specs.Page.{page_name}
+use Rattle.journal_pages.specs.declared.version.Version.TheVariants.{Two}
+
+-- so many bytes of a write that was cut short stand at the end of a file that isn't over
+abbrev pub EndsTorn : Ending → ℕ → Type 0
+EndsTorn GoesOn torn = torn ≡ 0
+EndsTorn (Torn n) torn = torn ≡ n
+EndsTorn Over torn = ⊥
+
+-- Whole pages, the first of which is one of version 2, and bytes of a write that was cut short behind them: the file of
+-- a day that may go on.
+pub record IsStopped (file : List ℕ) (day : Kept) (torn : ℕ) : Type 0 where
+  pub ending : Ending
+  pub says : Says file day ending
+  pub ends : EndsTorn ending torn
+  pub named : (torn ≡ length file) ⊎ (stands_at 16 (page_name Two) file ≡ true)
