@@ -28,8 +28,7 @@ use std::hash::BuildHasher;
 use to_client::{Request, report_pending};
 use to_market::{refuse_cancel, say_cancel};
 
-/// What a cancel of a client comes to, where so many reports were issued, of all clients, and its ClOrdID (11) is
-/// used already or isn't.
+/// Judges a cancel of a client, whose ClOrdID (11) is used already or isn't, after `issued` reports of all clients.
 ///
 /// `Refused`, by the first row that holds: its ClOrdID is used; its OrigClOrdID (41) names no order of the client;
 /// the order is closed; the port has ended or is faulted; a cancel of the order is pending. Else it is pending from

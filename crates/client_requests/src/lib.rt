@@ -1,5 +1,5 @@
-//! What a cancel or a replace of a client comes to on the table of orders: the row that refuses it, or what is kept,
-//! reported and asked of the market.
+//! Cancels and replaces of clients, judged on the table of orders: the row that refuses one, or what is kept, reported
+//! and asked of the market.
 //!
 //! `on_cancel` and `on_replace` change nothing: their caller puts what is kept into the table.
 //!

@@ -13,8 +13,8 @@ use orders::Order;
 use to_client::{Shown, shown_of};
 use to_market::{Character, NamedOrder};
 
-/// An order as the table of requests reads it: `own` is the capacity of its client, and so many replaces of it were
-/// accepted.
+/// An order as the table of requests reads it: `own` is the capacity of its client, `replaces` how many replaces of it
+/// were accepted.
 pub fn named_of<'a>(order: &'a Order, own: u8, replaces: usize) -> NamedOrder<'a>
     ensures reads { (s : TableState) → (terms_of s.terms order.now.new.client).capacity ≡ own
         → count_by (is_replacement_of order.now.new.order) s.tokens ≡ replaces

@@ -30,14 +30,13 @@ use std::hash::BuildHasher;
 use to_client::{Request, report_pending};
 use to_market::{ReplaceAsk, ask_of_replace, say_replace};
 
-/// What a replace of a client comes to, where so many reports were issued, of all clients, and its ClOrdID (11) is
-/// used already or isn't.
+/// Judges a replace of a client, whose ClOrdID (11) is used already or isn't, after `issued` reports of all clients.
 ///
-/// `Refused`, by the first row that holds: its ClOrdID is used; its OrigClOrdID (41) names no order of the client;
-/// the order is closed; the port has ended or is faulted; a cancel of the order is pending, or four replaces; then those
-/// of `to_market::ask_of_replace` on what it says itself. Else it is pending from then on, takes the next token, and
-/// asks the market to replace the order that goes by the token of the newest pending replace, or, where none is
-/// pending, by its live one.
+/// `Refused`, by the first row that holds: its ClOrdID is used; its OrigClOrdID (41) names no order of the client; the
+/// order is closed; the port has ended or is faulted; a cancel of the order is pending, or four replaces; then those of
+/// `to_market::ask_of_replace` on what it says itself. Else it is pending from then on, takes the next token, and asks
+/// the market to replace the order that goes by the token of the newest pending replace, or, where none is pending, by
+/// its live one.
 ///
 /// It changes nothing. The one error is that memory ran out.
 ///
@@ -94,7 +93,7 @@ fn replace_of<S: BuildHasher + Drop>(
     }
 }
 
-/// An accepted replace of an order, under the token after so many.
+/// An accepted replace of an order, under the next token after this many.
 fn accept_replace(
     alloc: Global,
     issued: u64,

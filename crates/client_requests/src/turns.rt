@@ -1,11 +1,11 @@
-//! What a cancel or a replace comes to.
+//! The result of a cancel or a replace.
 
 use fix_types::AppBody;
 use order_law::Inbound;
 use order_table::GivenToken;
 use orders::{Cancelling, Replacing};
 
-/// What a cancel comes to.
+/// The result of a cancel.
 #[derive(Drop)]
 pub enum CancelTurn {
     /// It is refused, in one reject: the order that it names stays as it is.
@@ -23,7 +23,7 @@ pub enum CancelTurn {
     },
 }
 
-/// What a replace comes to.
+/// The result of a replace.
 #[derive(Drop)]
 pub enum ReplaceTurn {
     /// It is refused, in one reject: the order that it names stays as it is.

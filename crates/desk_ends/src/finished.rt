@@ -1,4 +1,4 @@
-//! What is left of an end that has finished.
+//! What remains of a queue's end that has finished.
 
 ghost use Rattle.std.specs.Prelude.{◌≡◌, ◌<◌, ◌++◌, Some, slice_get, length};
 ghost use mathlib.Core.List.{IsPrefix};
@@ -13,7 +13,7 @@ use gate_events::{Event, Recipient, Source, Told};
 use rtrb::Consumer;
 use std::marker::{Model, PhantomData};
 
-/// What is left of an end that has finished. Contracts see its position, and what was put or taken.
+/// What remains of an end that has finished. Contracts see its position, and what was put or taken.
 #[derive(Drop)]
 pub struct Finished<K: DeskName> {
     at: usize,
@@ -21,12 +21,12 @@ pub struct Finished<K: DeskName> {
     of: PhantomData<K>,
 }
 
-/// The ring's end itself.
+/// The queue's end itself.
 #[derive(Drop)]
 pub enum FinishedEnd {
-    /// Of an inlet of this source.
+    /// An inlet's, of this source.
     Put(Source, rtrb::Finished<Event>),
-    /// Of an outlet for this client or port.
+    /// An outlet's, for this client or port.
     Took(Recipient, Consumer<Told>),
 }
 
@@ -47,7 +47,7 @@ impl<K: DeskName> Finished<K> {
     ghost use Rattle.desk_ends.specs.Ends.{done_of, inlet_of, position_of, IsNamedEnd};
     ghost use Rattle.desk_ends.specs.Seats.{seat_name, way_name, IsBorneOut, SeatsLooked, SeatsStayBut, WaysLooked};
 
-    /// What is left of the end of the ring at a position.
+    /// What remains of the end of the queue at a position.
     pub fn new(at: usize, end: FinishedEnd) -> Finished<K>
         requires named { IsNamedEnd K.inlets K.outlets at end }
         ensures { result ≡ done_of at end }
@@ -66,7 +66,7 @@ impl<K: DeskName> Finished<K> {
         self.at
     }
 
-    /// Its position among the desk's inlets, where it is an inlet's.
+    /// Its position among the desk's inlets, if it is an inlet's.
     pub fn inlet(&self) -> Option<usize>
         ensures { result ≡ inlet_of self.now }
     {
@@ -76,7 +76,7 @@ impl<K: DeskName> Finished<K> {
         }
     }
 
-    /// Compares it with the desk's own end of its ring: a seat knows then of all that is left of what an inlet put, and
+    /// Compares it with the desk's own end of its queue: a seat then knows all that is left of what an inlet put, and
     /// what an outlet took is a beginning of what went in.
     pub fn compare(&mut self, seats: &mut Vec<Seat>, ways: &mut Vec<Way>)
         requires seats { map seat_name seats.old.items ≡ K.inlets }

@@ -6,8 +6,8 @@ use gate_events::{Event, Source};
 use rtrb::{Producer, PushError};
 use std::marker::{Model, PhantomData};
 
-/// The end by which one thread puts the events of one source. Contracts see its position, its source, what was put and
-/// for how many events more it knows room.
+/// The producer's end of a queue of events, all of one source. Contracts see its position, its source, what was put,
+/// and for how many more events it knows room.
 pub struct Inlet<K: DeskName> {
     at: usize,
     source: Source,
@@ -55,7 +55,7 @@ impl<K: DeskName> Inlet<K> {
     ghost use Rattle.gate_events.specs.Sources.{is_from};
     ghost use Rattle.desk_ends.specs.Rings.{NamedInlet, producer_ring, put_at};
 
-    /// The end of a ring through which nothing went yet, at its position.
+    /// The end of a queue through which nothing went yet, at its position.
     pub fn new(at: usize, source: Source, producer: Producer<Event>) -> Inlet<K>
         requires named { slice_get K.inlets at ≡ Some (record { source = source; ring = producer_ring producer }) }
         requires empty { sent producer ≡ [] }
@@ -85,7 +85,7 @@ impl<K: DeskName> Inlet<K> {
         self.source
     }
 
-    /// Puts an event of its source, or gives it back where this end knows of no free place.
+    /// Puts an event of its source, or gives it back if it knows of no free place.
     pub fn put(&mut self, event: Event) -> Result<(), Event>
         requires own { is_from self.old.source event ≡ true }
         ensures same { (self.new.at ≡ self.old.at) × (self.new.source ≡ self.old.source) }
@@ -99,7 +99,7 @@ impl<K: DeskName> Inlet<K> {
         }
     }
 
-    /// Ends the inlet, and tells what was put. `None` where the desk is gone.
+    /// Ends the inlet, and says what was put. `None` if the desk is gone.
     pub fn finish(self) -> Option<Finished<K>>
         ensures { IfSome result (λ f. f ≡ put_at self.at self.source self.put) }
     {

@@ -1,11 +1,10 @@
-//! The ends of a desk's rings: inlets, by which threads put events, and outlets, by which they take what links are
-//! told.
+//! The ends of a desk's queues: inlets, by which threads put events, and outlets, by which they take output for links.
 //!
-//! Each end has the position of its ring in the desk, and its type keeps that it is the end of the ring which the
-//! desk's name has at that position. So what an end says of itself when it finishes is said of that ring, in whichever
+//! Each end has the position of its queue in the desk, and its type keeps that it is the end of the queue which the
+//! desk's name has at that position. So what an end says of itself when it finishes is said of that queue, in whichever
 //! thread it was.
 //!
-//! No call waits, and none takes memory.
+//! No call waits, and none but `Way::stage` takes memory.
 #![tactic(auto)]
 
 mod finished;

@@ -2,8 +2,8 @@
 
 use std::marker::Brand;
 
-/// Names the rings of one desk, by position: of each inlet its ring and whose events go through it, of each outlet its
-/// ring and whom its lists are for. Who opens a desk picks the name.
+/// Names the queues of one desk, by position: of each inlet its queue and its source, of each outlet its queue and its
+/// recipient. Whoever opens a desk picks the name.
 pub trait DeskName {
     ghost use Rattle.std.specs.Prelude.{List};
     ghost use Rattle.desk_ends.specs.Rings.{NamedInlet, NamedOutlet};

@@ -1,4 +1,4 @@
-//! The end by which one thread takes what a link is told.
+//! The end by which one thread takes a link's output.
 
 use crate::finished::{Finished, FinishedEnd};
 use crate::name::DeskName;
@@ -6,8 +6,8 @@ use gate_events::{Recipient, Told};
 use rtrb::Consumer;
 use std::marker::{Model, PhantomData};
 
-/// The end by which one thread takes what the links of one client or port are told. Contracts see its position, for
-/// whom it is, what was taken and what it knows to lie in the ring.
+/// The consumer's end of a queue of output lists, all for one client or port. Contracts see its position, its
+/// recipient, what was taken, and what it knows to be in the queue.
 pub struct Outlet<K: DeskName> {
     at: usize,
     to: Recipient,
@@ -49,7 +49,7 @@ impl<K: DeskName> Outlet<K> {
     ghost use Rattle.rtrb.specs.Ring.{received, known_items};
     ghost use Rattle.desk_ends.specs.Rings.{NamedOutlet, consumer_ring, took_at};
 
-    /// The end of a ring through which nothing went yet, at its position.
+    /// The end of a queue through which nothing went yet, at its position.
     pub fn new(at: usize, to: Recipient, consumer: Consumer<Told>) -> Outlet<K>
         requires named { slice_get K.outlets at ≡ Some (record { to = to; ring = consumer_ring consumer }) }
         requires empty { (received consumer ≡ []) × (known_items consumer ≡ []) }
@@ -78,7 +78,7 @@ impl<K: DeskName> Outlet<K> {
         self.to
     }
 
-    /// The next list, or none where this end knows of none.
+    /// The next list, or `None` if it knows of none.
     pub fn take(&mut self) -> Option<Told>
         ensures same { (self.new.at ≡ self.old.at) × (self.new.to ≡ self.old.to) }
         ensures some { IfSome result (λ told. self.new.took ≡ self.old.took ++ told ∷ []) }
@@ -88,7 +88,7 @@ impl<K: DeskName> Outlet<K> {
         self.consumer.pop().ok()
     }
 
-    /// Ends the outlet, and tells what was taken.
+    /// Ends the outlet, and says what was taken.
     pub fn finish(self) -> Finished<K>
         ensures { result ≡ took_at self.at self.to self.took }
     {

@@ -1,11 +1,11 @@
-//! The desk's end of an inlet's ring.
+//! The desk's end of an inlet's queue.
 
 use gate_events::{Event, Source};
 use rtrb::{Consumer, Finished};
 use std::marker::Model;
 
-/// The desk's end of an inlet's ring, by which it gives the events that were put. Contracts see its ring and whose
-/// events go through it, what it gave, and what it knows to lie in the ring.
+/// The desk's end of an inlet's queue, from which events come. Contracts see its queue and source, what it gave, and
+/// what it knows to be in the queue.
 #[derive(Drop)]
 pub struct Seat {
     source: Source,
@@ -32,7 +32,7 @@ impl Seat {
     ghost use Rattle.desk_ends.specs.Rings.{consumer_ring, finished_ring};
     ghost use Rattle.desk_ends.specs.Seats.{SeatGave, SeatLooked};
 
-    /// The end of a ring through which the events of a source go.
+    /// The end of a queue of a source's events.
     pub fn new(source: Source, consumer: Consumer<Event>) -> Seat
         ensures name { result.name ≡ record { source = source; ring = consumer_ring consumer } }
         ensures events { (result.gave ≡ received consumer) × (result.known ≡ known_items consumer) }
@@ -47,7 +47,7 @@ impl Seat {
         self.source
     }
 
-    /// Whether it knows of no event, after a look into the ring where it knew of none.
+    /// Whether it knows of no event, after a look into the queue if it knew of none.
     pub fn is_empty(&mut self) -> bool
         ensures looked { SeatLooked self.old self.new }
         ensures value { IsTrue result ↔ (length self.new.known ≡ 0) }
@@ -55,7 +55,7 @@ impl Seat {
         self.consumer.is_empty()
     }
 
-    /// How many events it knows to lie in the ring, without a look.
+    /// How many events it knows to be in the queue, without a look.
     pub fn known(&self) -> usize
         ensures { result ≡ length self.now.known }
     {
@@ -78,7 +78,7 @@ impl Seat {
         self.consumer.pop_known()
     }
 
-    /// Looks into the ring of an inlet that has finished: what it knows of then is all that is left.
+    /// Looks into the queue of an inlet that has finished: what it knows of then is all that is left.
     pub(crate) fn look_after(&mut self, finished: &mut Finished<Event>)
         requires own { finished_ring finished.old ≡ self.old.name.ring }
         ensures looked { SeatLooked self.old self.new }

@@ -1,4 +1,4 @@
-//! The desk's end of an outlet's ring.
+//! The desk's end of an outlet's queue.
 
 ghost use Rattle.std.specs.Prelude.{◌≡◌, ◌≤◌, [], true, false};
 ghost use Rattle.std.specs.VecDeque.{deque_capacity, deque_len};
@@ -10,20 +10,20 @@ use std::alloc::{AllocError, Global};
 use std::collections::VecDeque;
 use std::marker::Model;
 
-/// The desk's end of an outlet's ring, by which lists go into it. Contracts see its ring and whom its lists are for,
-/// what went in, for how many lists more it knows room, and whether it is cut.
+/// The desk's end of an outlet's queue, by which output lists go into it. Contracts see its queue and recipient, what
+/// went in, for how many more lists it knows room, and whether it is cut.
 ///
-/// It is cut once a list for its recipient found no room: that list and each later one stand in the history alone, so
-/// what goes out of the ring stays a beginning of what there was.
+/// It is cut once a list found no room: that list and each later one stand in the history alone, so what comes out of
+/// the queue stays a beginning of what there was.
 ///
-/// A way that stages keeps lists beside its ring, where nobody can take them, until they are released: then they go
-/// into the ring, in their order. Contracts see what is staged as sent and not yet released, and its places as no
+/// A way that stages keeps lists beside its queue, where nobody can take them, until they are released: then they go
+/// into the queue, in their order. Contracts see what is staged as sent and not yet released, and its places as no
 /// longer free.
 #[derive(Drop)]
 pub struct Way {
     to: Recipient,
     producer: Producer<Told>,
-    /// The lists that aren't in the ring yet, the oldest first.
+    /// The lists that aren't in the queue yet, the oldest first.
     staged: VecDeque<Told>,
     stages: bool,
     cut: bool,
@@ -59,7 +59,7 @@ impl Way {
     ghost use Rattle.desk_ends.specs.Rings.{consumer_ring, producer_ring};
     ghost use Rattle.desk_ends.specs.Seats.{IsStaging, WayLooked, WayMayRelease, WayMayStage, WaySent};
 
-    /// The end of a ring by which a recipient is told lists. It isn't cut, and stages nothing. Takes no memory.
+    /// The end of a queue to a recipient. It isn't cut, and stages nothing. Takes no memory.
     pub fn new(alloc: Global, to: Recipient, producer: Producer<Told>) -> Way
         ensures name { result.name ≡ record { to = to; ring = producer_ring producer } }
         ensures lists { (result.sent ≡ sent producer) × (result.free ≡ known_free producer) }
@@ -75,8 +75,8 @@ impl Way {
         }
     }
 
-    /// From now on it stages what it is sent. `AllocError` leaves it as it was; the room for what is staged is taken
-    /// here, so that no list takes memory.
+    /// From now on it stages the lists that it is sent. `AllocError` leaves it as it was; the room for what is staged
+    /// is taken here, so that no list takes memory.
     pub fn stage(&mut self) -> Result<(), AllocError>
         ensures same { WayMayStage self.old self.new }
         ensures stages { OnOk result (IsStaging self.new) }
@@ -87,7 +87,7 @@ impl Way {
         Ok(())
     }
 
-    /// What is staged goes into the ring, in its order. Takes no memory.
+    /// Moves what is staged into the queue, in its order. Takes no memory.
     pub fn release(&mut self)
         ensures same { WayMayRelease self.old self.new }
         ensures all { self.new.released ≡ self.new.sent }
@@ -104,8 +104,8 @@ impl Way {
         self.to
     }
 
-    /// Whether a list would find no room beside so many places that are kept free, after a look into the ring where it
-    /// knew of no more. A list for a cut way needs no room.
+    /// Whether a list would find no room beside `kept_free` places, after a look into the queue if it knew of no more.
+    /// A list for a cut way needs no room.
     pub fn is_full(&mut self, kept_free: usize) -> bool
         ensures looked { WayLooked self.old self.new }
         ensures value { IsTrue result ↔ ((self.new.cut ≡ false) × (self.new.free ≤ kept_free)) }
@@ -116,8 +116,7 @@ impl Way {
             && self.producer.slots() - staged <= kept_free
     }
 
-    /// For how many lists more there is room, after a look into the ring: as many as can be counted where the way is
-    /// cut.
+    /// For how many more lists there is room, after a look into the queue; `usize::MAX` if the way is cut.
     pub fn room(&mut self) -> usize
         ensures looked { WayLooked self.old self.new }
         ensures value { result ≡ (if self.new.cut then 18446744073709551615 else self.new.free) }
@@ -130,8 +129,8 @@ impl Way {
         }
     }
 
-    /// A list goes into the ring, unless nothing is in it or the way is cut. Where there is no room for it, the way is
-    /// cut. Takes no memory.
+    /// Puts a list into the queue, unless it is empty or the way is cut. If there is no room, the way is cut. Takes no
+    /// memory.
     pub fn send(&mut self, told: Told)
         ensures { WaySent (unless_empty told) self.old self.new }
     {

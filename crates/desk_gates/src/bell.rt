@@ -6,7 +6,7 @@ use std::hash::{BuildHasher, BuildHasherDefault, FoldHasher};
 use std::sync::Wait;
 use std::time::{self, Duration};
 
-/// Tells the system's time. A pause ends as the bell of its outlet rings, and at the latest after so long.
+/// The system's time; a pause ends when its outlet's bell rings, and after a fixed length at the latest.
 #[derive(Drop)]
 pub struct BellClock<'a, K: DeskName, R, S: BuildHasher + Drop = BuildHasherDefault<FoldHasher>> {
     rt: &'a R,
@@ -17,7 +17,7 @@ pub struct BellClock<'a, K: DeskName, R, S: BuildHasher + Drop = BuildHasherDefa
 }
 
 impl<'a, K: DeskName, R: Wait + time::Clock, S: BuildHasher + Drop> BellClock<'a, K, R, S> {
-    /// The clock of the writer of this outlet. Takes no memory.
+    /// The clock of this outlet's writer. Takes no memory.
     pub fn new(
         rt: &'a R,
         shared: &'a Shared<K, S>,
@@ -36,7 +36,7 @@ impl<'a, K: DeskName, R: Wait + time::Clock, S: BuildHasher + Drop> BellClock<'a
 
 impl<'a, K: DeskName, R: Wait + time::Clock, S: BuildHasher + Drop> Clock
     for BellClock<'a, K, R, S> {
-    /// The system's moment, or the last one told where the system's is before it or can't be had.
+    /// The system's moment; the last one given if the system's is earlier or can't be read.
     fn now_ms(&mut self) -> u64 {
         if let Ok(since) = self.rt.since_1970() {
             let now = u64::try_from(since.as_millis()).unwrap_or(u64::MAX);
@@ -45,8 +45,8 @@ impl<'a, K: DeskName, R: Wait + time::Clock, S: BuildHasher + Drop> Clock
         self.last
     }
 
-    /// Until the bell rings, at the latest until the outlet's own moment of the span that runs: a span is `longest`, and
-    /// outlets' moments follow one another in it.
+    /// Until the bell rings, at the latest until the outlet's own moment of the current span: a span is `longest`, and
+    /// the outlets' moments follow one another in it.
     fn pause(&mut self) {
         let most = match self.rt.since_1970() {
             Ok(since) => until_own_moment(since, self.longest, self.outlet),
@@ -56,11 +56,11 @@ impl<'a, K: DeskName, R: Wait + time::Clock, S: BuildHasher + Drop> Clock
     }
 }
 
-/// As many outlets have moments of their own in a span: those of the most clients and ports.
+/// How many outlets have moments of their own in a span: those of the most clients and ports.
 const MOMENTS: u32 = 80;
 
-/// How long it is until an outlet's next own moment, where spans are so long: never longer than that, and just that
-/// where it is a second or more.
+/// How long it is until an outlet's next own moment, for spans of this length: never longer than a span, and just a
+/// span if it is a second or more.
 fn until_own_moment(now: Duration, span: Duration, outlet: usize) -> Duration {
     let nanos = span.subsec_nanos();
     if span.as_secs() != 0 || nanos == 0 {

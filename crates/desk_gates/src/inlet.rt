@@ -1,4 +1,4 @@
-//! An inlet as a gate.
+//! A reader's handle to the desk.
 
 use crate::outlet_pen::{OutletEnd, OutletPen};
 use crate::told_pens::ToldPens;
@@ -8,12 +8,12 @@ use std::alloc::{AllocError, Global};
 use std::hash::{BuildHasher, BuildHasherDefault, FoldHasher};
 use std::sync::Wait;
 
-/// How many turns are owed at most: as many as there are places in a ring.
+/// How many turns are owed at most: as many as a queue has places.
 const MOST_TURNS: u32 = 1_024;
 
-/// The gate of a reader, or of the ticker: puts events through an inlet, and has the desk turned as often as events
-/// were put, until a turn makes no step. What these turns told the links of others it writes by their pens, where these
-/// are idle, and rings their bells elsewhere. Nothing is taken through it.
+/// The handle of a reader, or of the ticker: puts events through an inlet, and steps the desk once for each event that
+/// was put, until a turn steps nothing. What these turns produced for other links it writes by their pens, if these are
+/// idle; else it wakes their writers. Nothing is taken through it.
 #[derive(Drop)]
 pub struct InletGate<
     'p,
@@ -26,7 +26,7 @@ pub struct InletGate<
     shared: &'a Shared<K, S>,
     pens: ToldPens<'p, 'a, W, G, K, S>,
     inlet: Inlet<K>,
-    /// The events that were put since, less the turns that were made: never more than `MOST_TURNS`.
+    /// The events that were put, less the turns that were made: never more than `MOST_TURNS`.
     owed: u32,
 }
 
@@ -41,7 +41,7 @@ impl<'p, 'a, W: Prompt + Drop, G: OutletEnd + Drop, K: DeskName, S: BuildHasher 
     ghost use Rattle.std.specs.Prelude.{◌≡◌, IfSome};
     ghost use Rattle.desk.specs.desk_ends.Rings.{put_at};
 
-    /// The gate over an inlet of this desk, with the pens of its outlets, by position. Takes no memory.
+    /// The handle over an inlet of this desk, with the pens of its outlets, by position. Takes no memory.
     pub fn new(
         shared: &'a Shared<K, S>,
         pens: &'p [OutletPen<W, G>],
@@ -57,7 +57,7 @@ impl<'p, 'a, W: Prompt + Drop, G: OutletEnd + Drop, K: DeskName, S: BuildHasher 
         }
     }
 
-    /// Ends its inlet, and tells what was put. `None` where the desk is gone.
+    /// Ends its inlet, and says what was put. `None` if the desk is gone.
     pub fn finish(self) -> Option<Finished<K>>
         ensures { IfSome result (λ f. f ≡ put_at self.entry.inlet.at self.entry.inlet.source self.entry.inlet.put) }
     {
@@ -90,21 +90,21 @@ impl<'p, 'a, W: Prompt + Drop, G: OutletEnd + Drop, K: DeskName, S: BuildHasher 
         Ok(())
     }
 
-    /// Nothing lies at an inlet.
+    /// Nothing comes out of an inlet.
     fn take(&mut self) -> Option<ShortList<LinkOut>> {
         None
     }
 
-    /// Has the desk turn once, and again for each further event that was put, until a turn makes no step, and has what
-    /// they told written. Where another thread turns the desk, that one does so (`Shared::turns`), and nothing is
-    /// waited for but a prompt write.
+    /// Turns the desk once, and again for each further event that was put, until a turn steps nothing; then writes what
+    /// they produced. If another thread has the desk's lock, that one does so (`Shared::turns`); nothing is waited for
+    /// but a prompt write.
     fn turn<R: Wait>(&mut self, _rt: &R, alloc: Global) -> Result<u32, AllocError> {
         let turns = self.shared.turns(alloc, self.owed.max(1), &self.pens)?;
         self.owed = self.owed.saturating_sub(turns.rounds);
         Ok(turns.steps)
     }
 
-    /// Rings the bell of its client's or port's outlet.
+    /// Wakes the writer of its client's or port's outlet.
     fn wake_writer(&self) {
         self.shared.ring(self.inlet.position());
     }

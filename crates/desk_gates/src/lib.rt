@@ -1,5 +1,5 @@
-//! A desk's ends as gates: what the workers of links put into the desk and take from it, and the clock of a writer,
-//! whose pause ends as its outlet's bell rings.
+//! A desk's ends as the threads of links see them: a reader's handle, a writer's handle in its pen, and a writer's
+//! clock, whose pause ends when its outlet's bell rings.
 #![tactic(auto)]
 
 mod bell;

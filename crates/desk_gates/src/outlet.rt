@@ -1,4 +1,4 @@
-//! An outlet as a gate.
+//! A writer's handle to the desk.
 
 ghost use Rattle.desk_gates.specs.Since.{Earlier};
 
@@ -10,19 +10,19 @@ use std::hash::{BuildHasher, BuildHasherDefault, FoldHasher};
 use std::snapshot::Snapshot;
 use std::sync::Wait;
 
-/// So many lists in an outlet's ring hold a client's messages.
+/// With this many lists in an outlet's queue a client's messages wait.
 const FULL: u32 = 1_024;
 
-/// The gate of a writer: takes lists through an outlet. It turns the desk once it has taken as many lists in a row as
-/// hold a client's messages, since one may wait for that room. Nothing is put through it.
+/// The handle of a writer: takes output through an outlet. Once it has taken as many lists in a row as make a client's
+/// messages wait, it turns the desk, since one may wait for that room. Nothing is put through it.
 #[derive(Drop)]
 pub struct OutletGate<'a, K: DeskName, S: BuildHasher + Drop = BuildHasherDefault<FoldHasher>> {
     shared: &'a Shared<K, S>,
     outlet: Outlet<K>,
-    /// The lists that were taken since none lay there, or since the last turn: a turn that is owed isn't forgotten
-    /// where none lies there.
+    /// The lists that were taken since the queue was empty, or since the last turn: a turn that is owed isn't forgotten
+    /// if the queue is empty.
     in_a_row: u32,
-    /// The outlet as it came: for contracts alone.
+    /// The outlet as it was at first: for contracts alone.
     first: Snapshot<Outlet<K>>,
     ghost since: { Earlier first.value outlet },
 }
@@ -32,7 +32,7 @@ impl<'a, K: DeskName, S: BuildHasher + Drop> OutletGate<'a, K, S> {
     ghost use Rattle.desk.specs.desk_ends.Rings.{took_at};
     ghost use Rattle.desk_gates.specs.Since.{took_since};
 
-    /// The gate over an outlet of this desk. What was taken before isn't taken through it. Takes no memory.
+    /// The handle over an outlet of this desk. What was taken before isn't taken through it. Takes no memory.
     pub fn new(shared: &'a Shared<K, S>, outlet: Outlet<K>) -> OutletGate<'a, K, S>
         ensures outlet { result.outlet ≡ outlet }
         ensures fresh { took_since result.first.value result.outlet ≡ [] }
@@ -46,7 +46,7 @@ impl<'a, K: DeskName, S: BuildHasher + Drop> OutletGate<'a, K, S> {
         }
     }
 
-    /// Ends its outlet, and tells what was taken.
+    /// Ends its outlet, and says what was taken.
     pub fn finish(self) -> Finished<K>
         ensures { result ≡ took_at self.entry.outlet.at self.entry.outlet.to self.entry.outlet.took }
     {
@@ -68,7 +68,7 @@ impl<'a, K: DeskName, S: BuildHasher + Drop> Gate for OutletGate<'a, K, S> {
 
     ghost was_taken = { λ g. took_since g.first.value g.outlet };
 
-    /// An outlet takes no event: it is given back, always.
+    /// An outlet takes no event: it is always given back.
     fn put(&mut self, event: Event) -> Result<(), Event> {
         Err(event)
     }
@@ -84,7 +84,8 @@ impl<'a, K: DeskName, S: BuildHasher + Drop> Gate for OutletGate<'a, K, S> {
         Some(told.into_outs())
     }
 
-    /// Turns once where as many lists were taken, one after another, as hold a client's messages.
+    /// Turns the desk once if as many lists were taken, one after another, as make a client's messages wait. It waits
+    /// for the desk's lock.
     fn turn<R: Wait>(&mut self, rt: &R, alloc: Global) -> Result<u32, AllocError> {
         if self.in_a_row < FULL {
             return Ok(0);

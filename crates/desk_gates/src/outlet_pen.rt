@@ -6,28 +6,28 @@ use desk::Recipient;
 use gate_workers::{Gate, Pen, Prompt};
 use std::alloc::Global;
 
-/// A gate from which what one client or port is told is taken.
+/// A handle from which one client's or port's output is taken.
 pub trait OutletEnd: Gate {
     ghost use Rattle.gate_events.specs.declared.source.Recipient.{Recipient as ToldOne};
 
     ghost told: { Self → ToldOne };
 
-    /// Who is told it.
+    /// Whose output it is.
     fn recipient(&self) -> Recipient
         ensures { result ≡ told self.now };
 }
 
-/// The pen of what an outlet's client or port is told.
+/// The pen of an outlet's client or port.
 #[derive(Drop)]
 pub struct OutletPen<W: Prompt + Drop, G: OutletEnd + Drop> {
-    /// Who is told it.
+    /// Whose output it writes.
     to: Recipient,
     pen: Pen<W, G>,
     ghost own: { G.told pen.first.value ≡ to },
 }
 
 impl<W: Prompt + Drop, G: OutletEnd + Drop> OutletPen<W, G> {
-    /// The pen over a gate from which nothing was taken. Takes no memory.
+    /// The pen over a handle from which nothing was taken. Takes no memory.
     pub fn new(gate: G) -> OutletPen<W, G>
         requires fresh { G.was_taken gate ≡ [] }
         ensures to { result.to ≡ G.told gate }
@@ -37,7 +37,7 @@ impl<W: Prompt + Drop, G: OutletEnd + Drop> OutletPen<W, G> {
         OutletPen { to, pen }
     }
 
-    /// Who is told what it writes.
+    /// Whose output it writes.
     pub fn recipient(&self) -> Recipient
         ensures { result ≡ self.now.to }
     {
@@ -51,13 +51,12 @@ impl<W: Prompt + Drop, G: OutletEnd + Drop> OutletPen<W, G> {
         &self.pen
     }
 
-    /// Writes what lies there for the link by one prompt write, where nobody else holds the pen. Whether nothing is
-    /// left.
+    /// Writes what is queued for the link by one prompt write, if nobody else holds the pen. Whether nothing is left.
     pub(crate) fn write(&self, alloc: Global) -> bool {
         self.pen.write(alloc)
     }
 
-    /// The gate; `None` where a link is open still.
+    /// The handle; `None` if a link is still open.
     pub fn into_gate(self) -> Option<G> {
         let OutletPen { to: _, pen } = self;
         match pen.into_gate() {

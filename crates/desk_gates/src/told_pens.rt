@@ -1,4 +1,4 @@
-//! All pens of a desk, by which who had it turned writes what was told.
+//! All connections' writers: the thread that stepped the core writes through them.
 
 use crate::outlet_pen::{OutletEnd, OutletPen};
 use desk::{DeskName, Shared, ToldOutlets, WriteTold};
@@ -39,9 +39,9 @@ impl<'p, 'a, W: Prompt + Drop, G: OutletEnd + Drop, K: DeskName, S: BuildHasher 
 
 impl<'p, 'a, W: Prompt + Drop, G: OutletEnd + Drop, K: DeskName, S: BuildHasher + Drop> WriteTold
     for ToldPens<'p, 'a, W, G, K, S> {
-    /// By a prompt write each, the last one's first: ports stand behind clients, and what a port is told is what its
-    /// market waits for. Where a pen is held, or not all could be written, that outlet's bell rings, and its writer
-    /// goes on.
+    /// Writes the output of these outlets, by one prompt write each, the last outlet first: ports stand behind clients,
+    /// and a market waits for what its port is sent. If a pen is held, or not all could be written, the outlet's bell
+    /// rings, and its writer goes on.
     fn write_told(&self, alloc: Global, told: ToldOutlets) {
         if told.is_empty() {
             return;

@@ -1,4 +1,4 @@
-//! The ends of a desk's rings, handed out by position.
+//! The ends of a desk's queues, handed out by position.
 
 ghost use Rattle.std.specs.Prelude.{◌≡◌, ℕ, [], All, Some, map, length, slice_get, IfOk};
 ghost use Rattle.desk_ends.specs.Rings.{Putting, Taking};
@@ -49,7 +49,7 @@ pub fn outlets_of<K: DeskName>(
     Ok(outlets)
 }
 
-/// The inlet of a ring at its position.
+/// The inlet of a queue, at its position.
 fn inlet_at<K: DeskName>(at: usize, ring: EventRing) -> Inlet<K>
     requires named { slice_get K.inlets at ≡ Some (inlet_name ring) }
     requires fresh { IsFreshEvents ring }
@@ -59,7 +59,7 @@ fn inlet_at<K: DeskName>(at: usize, ring: EventRing) -> Inlet<K>
     Inlet::new(at, source, producer)
 }
 
-/// The outlet of a ring at its position.
+/// The outlet of a queue, at its position.
 fn outlet_at<K: DeskName>(at: usize, ring: ToldRing) -> Outlet<K>
     requires named { slice_get K.outlets at ≡ Some (outlet_name ring) }
     requires fresh { IsFreshLists ring }

@@ -1,5 +1,5 @@
-//! The rings of a desk: made in a row, one for each source of events and one for each recipient, and their ends handed
-//! out by position.
+//! The queues of a desk: one for each source of events and one for each recipient of output, and their ends handed out
+//! by position.
 #![tactic(auto)]
 
 mod handing;

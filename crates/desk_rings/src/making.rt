@@ -1,4 +1,4 @@
-//! Rings, made in a row.
+//! Makes the queues.
 
 ghost use Rattle.std.specs.Prelude.{IfOk};
 ghost use Rattle.desk_rings.specs.Made.{MadeEvents, MadeLists};
@@ -9,13 +9,13 @@ use rtrb::RingBuffer;
 use std::alloc::{AllocError, Global};
 use std::collections::VecDeque;
 
-/// So many events the ring of an inlet holds.
+/// How many events an inlet's queue holds.
 pub const EVENTS: usize = 1_024;
 
-/// So many lists the ring of an outlet holds.
+/// How many lists an outlet's queue holds.
 pub const LISTS: usize = 2_112;
 
-/// A ring for each source, in order, the desk's end of each beside the other.
+/// A queue for each source, in order: the producer's ends, and the desk's.
 pub fn event_rings(
     alloc: Global,
     sources: &[Source],
@@ -35,7 +35,7 @@ pub fn event_rings(
     Ok((rings, seats))
 }
 
-/// A ring for each recipient, in order, the desk's end of each beside the other.
+/// A queue for each recipient, in order: the desk's ends, and the consumer's.
 pub fn told_rings(
     alloc: Global,
     recipients: &[Recipient],

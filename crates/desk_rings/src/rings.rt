@@ -1,16 +1,16 @@
-//! The ends of rings that aren't handed out yet.
+//! The ends of queues that aren't handed out yet.
 
 use desk_ends::{Event, Recipient, Source, Told};
 use rtrb::{Consumer, Producer};
 
-/// The end by which the events of a source are put.
+/// The end by which a source's events are put.
 #[derive(Drop)]
 pub struct EventRing {
     pub source: Source,
     pub producer: Producer<Event>,
 }
 
-/// The end by which what a recipient is told is taken.
+/// The end by which a recipient's output is taken.
 #[derive(Drop)]
 pub struct ToldRing {
     pub to: Recipient,

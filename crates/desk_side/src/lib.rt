@@ -1,6 +1,6 @@
-//! The desk's side of its rings: events come out of those of the inlets, and lists go into those of the outlets.
+//! The desk's side of its queues: events come out of the inlets' queues, output goes into the outlets'.
 //!
-//! Nothing is stepped here, and no call but `open_side` takes memory.
+//! Nothing is stepped here, and no call but `open_side` and `Side::stage` takes memory.
 #![tactic(auto)]
 
 mod opening;

@@ -1,4 +1,4 @@
-//! The rings of a desk, made.
+//! Makes a desk's queues.
 
 ghost use Rattle.std.specs.Prelude.{◌≡◌, ◌<◌, ◌+◌, ◌≤◌, ℕ, Some, length, slice_get, IfOk};
 ghost use Rattle.gate_events.specs.declared.source.Source.{Source};
@@ -12,7 +12,7 @@ use gate_events::{ClientNumber, PortNumber, Recipient, Source};
 use std::alloc::{AllocError, Global};
 use std::collections::VecDeque;
 
-/// The rings of a desk for so many clients and ports: the desk's side of them, and the other ends by position.
+/// The queues of a desk for this many clients and ports: the desk's side of them, and the other ends by position.
 pub fn open_side(
     alloc: Global,
     clients: usize,

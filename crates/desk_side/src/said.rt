@@ -1,11 +1,11 @@
-//! What a batch tells links, to be pushed.
+//! The output of a batch, to be queued.
 
 ghost use Rattle.gate_events.specs.Seen.{batch_seen};
 ghost use Rattle.desk_side.specs.Said.{IsSaid};
 
 use gate_events::{Batch, ClientNumber, PortNumber, Told};
 
-/// What a batch tells: the list for its client and the list for its port.
+/// The output of a batch: the list for its client and the list for its port.
 #[derive(Drop)]
 pub struct Said {
     pub client: Option<ClientNumber>,
@@ -15,7 +15,7 @@ pub struct Said {
 }
 
 impl Said {
-    /// What a batch tells, moved out of it. Takes no memory.
+    /// The output of a batch, moved out of it. Takes no memory.
     pub fn of(batch: Batch) -> Said
         ensures { IsSaid (batch_seen batch) result }
     {

@@ -1,4 +1,4 @@
-//! All rings of a desk, from the desk's side.
+//! All queues of a desk, from the desk's side.
 
 ghost use Rattle.std.specs.Prelude.{◌≡◌};
 
@@ -12,18 +12,18 @@ use gate_events::{Event, Source, Told};
 use std::alloc::AllocError;
 use std::marker::Model;
 
-/// All rings of a desk, from the desk's side: a seat for each client, each port and the clock, and a way for each
+/// All queues of a desk, from the desk's side: a seat for each client, each port and the clock, and a way for each
 /// client and each port. Contracts see them by position.
 pub struct Side {
     clients: usize,
     ports: usize,
     seats: Vec<Seat>,
     ways: Vec<Way>,
-    /// For so many lists at least each way that isn't cut knows room.
+    /// For how many lists at least each way that isn't cut has room.
     roomy: usize,
-    /// A bit for each way that isn't to wait for a list that went into its ring since they were taken, by position.
+    /// Bit i: output queue i got urgent output since the last `take_rung`.
     rung: u128,
-    /// A bit for each way that may wait, and was told nothing since that may not, by position.
+    /// Bit i: output queue i holds only output that may wait, since the last `take_waiting`.
     waiting: u128,
 }
 
@@ -62,7 +62,7 @@ impl Side {
     ghost use Rattle.desk_ends.specs.Ends.{inlet_of};
     ghost use Rattle.desk_side.specs.Side.{AllKnowRoom, ChangesAt, HaveRoom, IsArranged, LacksRoom, Tells};
 
-    /// These seats and ways, for so many clients and ports.
+    /// Over these seats and ways, for this many clients and ports.
     pub fn new(clients: usize, ports: usize, seats: Vec<Seat>, ways: Vec<Way>) -> Side
         requires arranged { IsArranged
             (record { clients = clients; ports = ports; seats = seats.items; ways = ways.items }) }
@@ -86,7 +86,7 @@ impl Side {
         self.seats.len()
     }
 
-    /// Whose events come out of an inlet's ring.
+    /// Whose events come out of an inlet's queue.
     pub fn source(&self, place: usize) -> Source
         requires inside { place < length self.now.seats }
         ensures { (a : SeatState) → slice_get self.now.seats place ≡ Some a → a.name.source ≡ result }
@@ -94,7 +94,7 @@ impl Side {
         self.seats[place].source()
     }
 
-    /// Whether no event is known in an inlet's ring, after a look.
+    /// Whether no event is known in an inlet's queue, after a look.
     pub fn is_empty(&mut self, place: usize) -> bool
         requires inside { place < length self.old.seats }
         ensures seats { ChangesAt place SeatLooked self.old.seats self.new.seats }
@@ -106,7 +106,7 @@ impl Side {
         is_empty_at(&mut self.seats, place)
     }
 
-    /// How many events are known in an inlet's ring, without a look.
+    /// How many events are known in an inlet's queue, without a look.
     pub fn known(&self, place: usize) -> usize
         requires inside { place < length self.now.seats }
         ensures { (a : SeatState) → slice_get self.now.seats place ≡ Some a → result ≡ length a.known }
@@ -114,7 +114,7 @@ impl Side {
         self.seats[place].known()
     }
 
-    /// The first event of an inlet's ring.
+    /// The first event of an inlet's queue.
     pub fn front(&self, place: usize) -> &Event
         requires inside { place < length self.now.seats }
         requires some { (a : SeatState) → slice_get self.now.seats place ≡ Some a → 0 < length a.known }
@@ -123,7 +123,7 @@ impl Side {
         self.seats[place].front()
     }
 
-    /// The first event comes out of an inlet's ring.
+    /// Takes the first event out of an inlet's queue.
     pub fn pop(&mut self, place: usize) -> Event
         requires inside { place < length self.old.seats }
         requires some { (a : SeatState) → slice_get self.old.seats place ≡ Some a → 0 < length a.known }
@@ -134,8 +134,8 @@ impl Side {
         pop_at(&mut self.seats, place)
     }
 
-    /// Whether lists for this client and for this port would find room beside so many places that are kept free, after
-    /// a look. A list for a cut way needs none.
+    /// Whether lists for this client and this port would find room beside `kept_free` places, after a look. A list for
+    /// a cut way needs none.
     pub fn has_room(&mut self, client: Option<u16>, port: Option<u16>, kept_free: usize) -> bool
         ensures seats { self.new.seats ≡ self.old.seats }
         ensures ways { WaysLooked self.old.ways self.new.ways }
@@ -151,9 +151,9 @@ impl Side {
         !is_full_at(&mut self.ways, port, kept_free)
     }
 
-    /// Whether lists for anybody would find room beside so many places that are kept free. It looks into the rings only
-    /// where it doesn't know: then it knows for as many lists more as the fullest ring has room for. Where one has no
-    /// room, `has_room` tells of those that a list is for.
+    /// Whether lists for anybody would find room beside `kept_free` places. It looks into the queues only if it doesn't
+    /// know; then it knows for as many lists more as the fullest queue has room for. If one has no room, `has_room`
+    /// says it of those that a list is for.
     pub fn has_room_everywhere(&mut self, kept_free: usize) -> bool
         ensures seats { self.new.seats ≡ self.old.seats }
         ensures ways { WaysLooked self.old.ways self.new.ways }
@@ -167,7 +167,7 @@ impl Side {
         self.roomy > kept_free
     }
 
-    /// What was said goes into the rings of those whom it is for. Where there is no room for it, the way is cut.
+    /// Puts a batch's output into its recipients' queues. A way that has no room is cut.
     pub fn tell(&mut self, said: Said)
         ensures seats { self.new.seats ≡ self.old.seats }
         ensures ways { Tells said self.old.ways self.new.ways }
@@ -192,8 +192,8 @@ impl Side {
         send_at(&mut self.ways, port, port_told);
     }
 
-    /// From now on what is said waits beside the rings until it is released. `AllocError` leaves some ways as they were:
-    /// it may be called again.
+    /// From now on output waits beside the queues until it is released. `AllocError` leaves some ways as they were: it
+    /// may be called again.
     pub fn stage(&mut self) -> Result<(), AllocError>
         ensures seats { self.new.seats ≡ self.old.seats }
         ensures ways { WaysMayStage self.old.ways self.new.ways }
@@ -203,7 +203,7 @@ impl Side {
         stage_each(&mut self.ways)
     }
 
-    /// What waits beside the rings goes into them. Takes no memory.
+    /// Moves what waits beside the queues into them. Takes no memory.
     pub fn release(&mut self)
         ensures seats { self.new.seats ≡ self.old.seats }
         ensures ways { WaysMayRelease self.old.ways self.new.ways }
@@ -213,8 +213,8 @@ impl Side {
         release_each(&mut self.ways);
     }
 
-    /// The ways to which something was told since the last call that isn't to wait: a bit for each, by position. A
-    /// client that is told something beside a port may wait: for what it is told next, or until `take_waiting`.
+    /// The output queues that got urgent output since the last call, a bit for each by position. Of a client and a port
+    /// that one batch has output for it is the port: the client's may wait, for its next output or for `take_waiting`.
     pub fn take_rung(&mut self) -> u128
         ensures { self.new ≡ self.old }
     {
@@ -224,8 +224,8 @@ impl Side {
         rung
     }
 
-    /// The ways to which something was told since the last call that may wait, and nothing since that isn't to: a bit
-    /// for each, by position.
+    /// The output queues that got output since the last call that may wait, and none since that is urgent: a bit for
+    /// each by position.
     pub fn take_waiting(&mut self) -> u128
         ensures { self.new ≡ self.old }
     {
@@ -234,8 +234,8 @@ impl Side {
         waiting
     }
 
-    /// Compares an end that has finished with the desk's own end of its ring: of an inlet's, all that is left is known
-    /// then.
+    /// Compares an end that has finished with the desk's own end of its queue: of an inlet's, all that is left is then
+    /// known.
     pub fn compare<K: DeskName>(&mut self, finished: &mut Finished<K>)
         requires seats { map seat_name self.old.seats ≡ K.inlets }
         requires ways { map way_name self.old.ways ≡ K.outlets }
@@ -250,7 +250,7 @@ impl Side {
     }
 }
 
-/// The bit of a place, where there is something in a list for it.
+/// The bit of a place, if a list for it has something.
 fn bit(place: Option<usize>, told: &Told) -> u128 {
     match place {
         Some(place) if place < 128 && !told.as_slice().is_empty() => 1u128 << place,
@@ -258,8 +258,8 @@ fn bit(place: Option<usize>, told: &Told) -> u128 {
     }
 }
 
-/// Of the bits of a client and a port that one batch tells something the one that isn't to wait, and the one that may:
-/// the client's, where the port is told something.
+/// Of the bits of a client and a port that one batch has output for: the urgent one, and the one that may wait, which
+/// is the client's if the port has output.
 fn prompt_and_waiting(client: u128, port: u128) -> (u128, u128) {
     if port == 0 {
         (client, 0)

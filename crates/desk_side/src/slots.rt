@@ -1,4 +1,4 @@
-//! Calls on the seat or the way at a place.
+//! Calls on the seat or way at a place.
 
 ghost use Rattle.std.specs.Prelude.{◌≡◌, ◌<◌, ◌≤◌, ◌⊎◌, ℕ, true, false, Some, None, length, slice_get, IfSome, OnOk};
 ghost use Rattle.gate_events.specs.Sources.{unless_empty};
@@ -29,8 +29,7 @@ pub(crate) fn pop_at(seats: &mut Vec<Seat>, place: usize) -> Event
     seats[place].pop()
 }
 
-/// Whether the way at this place, if there is one, isn't cut and knows of no room beside so many places that are kept
-/// free, after a look.
+/// Whether the way at this place, if there is one, isn't cut and has no room beside `kept_free` places, after a look.
 pub(crate) fn is_full_at(ways: &mut Vec<Way>, place: Option<usize>, kept_free: usize) -> bool
     requires inside { IfSome place (λ d. d < length ways.old.items) }
     ensures looked { WaysLooked ways.old.items ways.new.items }
@@ -45,7 +44,7 @@ pub(crate) fn is_full_at(ways: &mut Vec<Way>, place: Option<usize>, kept_free: u
     ways[place].is_full(kept_free)
 }
 
-/// For how many lists each way that isn't cut has room at least, after a look into each ring.
+/// For how many lists each way that isn't cut has room at least, after a look into each queue.
 pub(crate) fn least_room(ways: &mut Vec<Way>) -> usize
     ensures looked { WaysLooked ways.old.items ways.new.items }
     ensures room { AllKnowRoom result ways.new.items }
@@ -57,7 +56,7 @@ pub(crate) fn least_room(ways: &mut Vec<Way>) -> usize
     least
 }
 
-/// A list goes into the ring of the way at this place, if there is one.
+/// Puts a list into the queue of the way at this place, if there is one.
 pub(crate) fn send_at(ways: &mut Vec<Way>, place: Option<usize>, told: Told)
     requires inside { IfSome place (λ d. d < length ways.old.items) }
     ensures at { (d : ℕ) → place ≡ Some d → ChangesAt d (WaySent (unless_empty told)) ways.old.items ways.new.items }
@@ -81,7 +80,7 @@ pub(crate) fn stage_each(ways: &mut Vec<Way>) -> Result<(), AllocError>
     Ok(())
 }
 
-/// What is staged for each way goes into its ring. Takes no memory.
+/// Moves what is staged for each way into its queue. Takes no memory.
 pub(crate) fn release_each(ways: &mut Vec<Way>)
     ensures same { WaysMayRelease ways.old.items ways.new.items }
     ensures all { AllReleased ways.new.items }

@@ -270,7 +270,7 @@ impl Framer {
     }
 }
 
-/// Lets go so many bytes in front: mostly none, where nothing is to be done.
+/// Drops this many bytes in front: mostly 0, and then nothing is to be done.
 fn let_go(buffer: &mut StreamBuffer, count: usize)
     requires none { buffer.old.offered ≡ [] }
     requires held { count ≤ length buffer.old.kept.held }

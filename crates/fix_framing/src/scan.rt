@@ -21,7 +21,7 @@ pub(crate) struct Scanned {
     pub(crate) is_over: bool,
 }
 
-/// What comes next in a text, behind so many bytes that are skipped: a frame of so many bytes, where one is whole; else
+/// What comes next in a text, behind the bytes that are skipped: a frame of this size, if one is whole; else
 /// what has to wait for more, or too long a frame.
 #[derive(Clone, Copy)]
 pub(crate) struct Next {
@@ -78,7 +78,7 @@ pub(crate) fn scan(alloc: Global, text: &[u8]) -> Result<Scanned, AllocError>
     }
 }
 
-/// Takes a piece behind what is held, and lets go the frames and what is skipped. An error leaves the buffer as it was.
+/// Takes a piece behind what is held, and drops the frames and what is skipped. An error leaves the buffer as it was.
 pub(crate) fn scan_in(
     alloc: Global,
     buffer: &mut StreamBuffer,

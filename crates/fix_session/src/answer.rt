@@ -1,4 +1,4 @@
-//! What each line of the table writes.
+//! The answer of each row of the table, made in a draft.
 
 ghost use Rattle.std.specs.Prelude.{fold, ◌≡◌, ◌≤◌, ◌<◌, ◌^◌, ◌++◌, ◌∷◌, [], length, IfOk, OnOk, Some, None, codes};
 ghost use Rattle.std.specs.Prelude.{decimal, true, false, nat_le};
@@ -18,7 +18,7 @@ use session_reading::{Row, Taken, numbered, text};
 use session_writing::{echo_body, too_low_body, unsupported_body};
 use std::alloc::{AllocError, Global};
 
-/// Does what the line of the table says, from nothing on. A message that is delivered needs no draft.
+/// Makes the row's answer, in a draft. A message that is delivered needs none.
 pub fn answer(
     alloc: Global,
     draft: &mut Draft,
@@ -92,7 +92,7 @@ fn names_wrong(
     draft.log_out(alloc, session, b"CompID problem")
 }
 
-/// A ResendRequest, unless one waits.
+/// A ResendRequest, unless one is waiting for its numbers.
 fn ask_unless_waiting(
     alloc: Global,
     draft: &mut Draft,
@@ -109,7 +109,7 @@ fn ask_unless_waiting(
     }
 }
 
-/// What the message with the expected number brings, apart from a resend. None is delivered here.
+/// The answer to the message with the expected number, apart from a resend. None is delivered here.
 fn act(
     alloc: Global,
     draft: &mut Draft,
@@ -146,7 +146,7 @@ fn echo(alloc: Global, draft: &mut Draft, session: &Session, m: &Fields) -> Resu
     draft.say(session, Kind::Heartbeat, body)
 }
 
-/// Refuses a type that isn't served. The body is kept.
+/// Rejects a type that isn't served. The body is kept for resends.
 fn unsupported(
     alloc: Global,
     draft: &mut Draft,

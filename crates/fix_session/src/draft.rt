@@ -1,4 +1,4 @@
-//! An answer as it is made: nothing of the session changes before all of it stands.
+//! An answer as it is made, beside the session: nothing of the session changes before the answer is complete.
 
 ghost use Rattle.session_law.specs.Table as table;
 ghost use Rattle.std.specs.Prelude.{max, fold, ◌≤◌, ◌≡◌, ◌+◌, ◌<◌, ◌^◌, ◌∷◌, ◌++◌, [], length, IfOk, OnErr, OnOk, Some};
@@ -12,24 +12,24 @@ use session_law::{Frame, Kind, Logged, Out, Phase};
 use session_writing::{KeptBodies, ask_body, echo_body, reject_body, text_body};
 use std::alloc::{AllocError, Global};
 
-/// Numbers that are sent again, from one to another.
+/// The numbers to be sent again, from one to another.
 #[derive(Clone, Copy)]
 pub struct Resend {
     pub from: u64,
     pub to: u64,
 }
 
-/// What a call gives, as far as it is made.
+/// The answer of a call, as far as it is made.
 pub struct Draft {
     pub phase: Phase,
     pub expected: u64,
-    /// The session's time, in milliseconds since 1970: all that is made bears it.
+    /// The session's time, in milliseconds since 1970, which all that is made bears.
     pub latest: u64,
     /// Whether both numbers begin at 1 again, with nothing kept.
     pub resets: bool,
-    /// What the numbers that it takes are given to.
+    /// What the numbers that it takes are given to: a kept body, or a frame that isn't kept.
     pub slots: KeptBodies,
-    /// The numbers that are sent again before all else, where some are asked for.
+    /// The numbers that are sent again before all else, if any.
     pub resends: Option<Resend>,
     pub outs: Vec<Out>,
 }
@@ -75,7 +75,7 @@ impl Draft {
         slots
     }
 
-    /// Nothing yet, at this moment.
+    /// An empty draft at this moment.
     pub fn at(alloc: Global, session: &Session, at: u64) -> Draft
         ensures made { made session.now.session result ≡ quiet (at_moment at session.now.session) }
         ensures fresh { result.resets ≡ false }
@@ -94,7 +94,7 @@ impl Draft {
         }
     }
 
-    /// Nothing yet, at this moment, with a frame received.
+    /// An empty draft at this moment, with a frame received.
     pub fn heard_at(alloc: Global, session: &Session, at: u64) -> Draft
         ensures made { made session.now.session result ≡ quiet (heard (at_moment at session.now.session)) }
         ensures fresh { result.resets ≡ false }
@@ -107,7 +107,7 @@ impl Draft {
         draft
     }
 
-    /// Nothing yet, at this moment, with the client logged on.
+    /// An empty draft at this moment, with the client logged on.
     pub fn opened_at(
         alloc: Global,
         session: &Session,
@@ -146,7 +146,7 @@ impl Draft {
         before + self.slots.len() as u64 + 1
     }
 
-    /// A frame under the next number, whose body is kept.
+    /// Adds a frame under the next number, whose body is kept.
     pub fn say_kept(
         &mut self,
         session: &Session,
@@ -169,7 +169,7 @@ impl Draft {
         Ok(())
     }
 
-    /// A frame under the next number, which isn't kept.
+    /// Adds a frame under the next number, which isn't kept.
     pub fn say(&mut self, session: &Session, kind: Kind, body: Fields) -> Result<(), AllocError>
         ensures { OnOk result (made session.now.session self.new
             ≡ said kind body (made session.now.session self.old)) }
@@ -187,7 +187,7 @@ impl Draft {
         Ok(())
     }
 
-    /// The session closes its link.
+    /// Closes the session's link.
     pub fn shut(&mut self, session: &Session) -> Result<(), AllocError>
         ensures { OnOk result (made session.now.session self.new
             ≡ perform (made session.now.session self.old) Shut) }
@@ -197,7 +197,7 @@ impl Draft {
         Ok(())
     }
 
-    /// The expected number grows by 1.
+    /// Raises the expected number by 1.
     pub fn grow(&mut self, session: &Session)
         requires { self.old.expected < 2 ^ 61 }
         ensures { made session.now.session self.new ≡ perform (made session.now.session self.old) Grow }
@@ -205,14 +205,14 @@ impl Draft {
         self.expected += 1;
     }
 
-    /// The expected number is this now.
+    /// Sets the expected number.
     pub fn expect(&mut self, session: &Session, number: u64)
         ensures { made session.now.session self.new ≡ perform (made session.now.session self.old) (Expect number) }
     {
         self.expected = number;
     }
 
-    /// Rejects a message.
+    /// Adds a Reject.
     pub fn reject(
         &mut self,
         alloc: Global,
@@ -228,7 +228,7 @@ impl Draft {
         self.say(session, Kind::Reject, body)
     }
 
-    /// A Logout with a reason, and the end.
+    /// Adds a Logout with a reason, and closes the link.
     pub fn log_out(
         &mut self,
         alloc: Global,
@@ -244,7 +244,7 @@ impl Draft {
         self.shut(session)
     }
 
-    /// A Logout without a reason, and the end.
+    /// Adds a Logout without a reason, and closes the link.
     pub fn log_out_silently(&mut self, alloc: Global, session: &Session) -> Result<(), AllocError>
         ensures { OnOk result (made session.now.session self.new
             ≡ fold perform (made session.now.session self.old) log_out_silently) }
@@ -253,7 +253,7 @@ impl Draft {
         self.shut(session)
     }
 
-    /// A ResendRequest from the expected number on, caused by this one.
+    /// Adds a ResendRequest from the expected number on; this number caused it.
     pub fn ask_again(
         &mut self,
         alloc: Global,
@@ -274,7 +274,7 @@ impl Draft {
         Ok(())
     }
 
-    /// A TestRequest after silence.
+    /// Adds a TestRequest after silence.
     pub fn test(&mut self, alloc: Global, session: &Session) -> Result<(), AllocError>
         ensures { OnOk result (made session.now.session self.new
             ≡ perform (made session.now.session self.old) Test) }
@@ -287,7 +287,7 @@ impl Draft {
         Ok(())
     }
 
-    /// Numbers sent again, where nothing else is written yet. Takes no memory.
+    /// Sends numbers again, if nothing else is written yet. Takes no memory.
     pub fn send_again(&mut self, session: &Session, from: u64, to: u64)
         requires given { (made session.now.session self.old).state.given ≡ session.now.session.given }
         requires silent { (self.old.resends ≡ None) × (self.old.outs.items ≡ []) }
@@ -300,7 +300,7 @@ impl Draft {
         self.phase = phase_resent(self.phase, self.latest, from, to);
     }
 
-    /// A frame was written now.
+    /// Notes that a frame was written now.
     fn mark_written(&mut self)
         ensures phase { self.new.phase ≡ on_written self.old.latest self.old.phase }
         ensures kept { self.new ≡ record self.old { phase = self.new.phase } }
@@ -314,7 +314,7 @@ impl Draft {
     }
 }
 
-/// How a client stands where a frame of it was received now.
+/// The client's phase after a frame of it was received now.
 pub fn phase_heard(phase: Phase, now: u64) -> Phase
     ensures { result ≡ on_heard now phase }
 {
@@ -328,7 +328,7 @@ pub fn phase_heard(phase: Phase, now: u64) -> Phase
     }
 }
 
-/// How a client stands where numbers were sent again now, if there were any.
+/// The client's phase after numbers were sent again now, if there were any.
 fn phase_resent(phase: Phase, now: u64, from: u64, to: u64) -> Phase
     ensures { result ≡ (if nat_le from to then on_written now phase else phase) }
 {
@@ -338,7 +338,7 @@ fn phase_resent(phase: Phase, now: u64, from: u64, to: u64) -> Phase
     }
 }
 
-/// The number that is expected: 1 where both numbers begin anew.
+/// The expected number: 1 if both numbers begin anew.
 pub fn first_number(resets: bool, expected: u64) -> u64
     ensures { result ≡ (if resets then 1 else expected) }
 {

@@ -1,4 +1,4 @@
-//! Which line of the table a message meets, of a client that is logged on and of a link that isn't. Judging changes
+//! Which row of the table a message meets, of a client that is logged on and of a link that isn't. Judging changes
 //! nothing and takes no memory.
 
 ghost use Rattle.std.specs.Prelude.{◌≡◌, ◌≤◌, ◌<◌, ◌^◌, length, if◌then◌else◌, codes};
@@ -22,7 +22,7 @@ fn is_from_client(session: &Session, m: &Fields) -> bool
     is(m, 49, session.client()) && is(m, 56, session.gate())
 }
 
-/// The line that a message of a client that is logged on meets.
+/// The row that a message of a client that is logged on meets.
 pub fn judge(session: &Session, m: &Fields) -> Row
     ensures answer { answer_by (table.logged_on_rows session.now.session m.now
         (table.message_number m.now) session.now.session.expected)
@@ -53,7 +53,7 @@ pub fn judge(session: &Session, m: &Fields) -> Row
     Row::Taken(judge_taken(m, session.last()))
 }
 
-/// A number above the expected one.
+/// The row of a number above the expected one.
 fn judge_high(session: &Session, m: &Fields) -> Row
     ensures fits { RowFits m.now (length session.now.session.given) result }
     ensures answer { row_answer session.now.session m.now (table.message_number m.now)
@@ -72,12 +72,12 @@ fn judge_high(session: &Session, m: &Fields) -> Row
     Row::Gap
 }
 
-/// A line of the table of a link that isn't logged on.
+/// A row of the table of a link that isn't logged on.
 #[derive(Clone, Copy, PartialEq, Eq)]
 pub enum LogonRow {
-    /// The end, without a word.
+    /// The link is closed without a word.
     NotAnswered,
-    /// A low number: a Logout, and the end.
+    /// The number is too low: a Logout, and the end.
     TooLow { expected: u64 },
     /// The client is logged on.
     LogsOn { interval: u32, resets: bool },
@@ -96,7 +96,7 @@ fn is_logon(session: &Session, m: &Fields) -> bool
                     && (is_interval(m) && (is_reset_flag(m) && m.first_fault().is_none())))))
 }
 
-/// The line that a message of a link that isn't logged on meets.
+/// The row that a message of a link that isn't logged on meets.
 pub fn judge_logon(session: &Session, m: &Fields) -> LogonRow
     ensures { answer_by (table.logon_rows session.now.session m.now (table.message_number m.now)
         (if table.resets m.now then 1 else session.now.session.expected))

@@ -1,8 +1,8 @@
 //! The gateway's end of a FIX session: numbers, gaps, resends, silence, the end.
 //!
-//! A session is a value that is stepped by calls; it reads no clock and no link. What a message or a moment brings is
-//! judged first, then made beside the session, and then taken over whole, so want of memory leaves the session as it
-//! was.
+//! A session is a value that is stepped by calls; it reads no clock and no socket. A message or a moment is judged
+//! first; then its answer is made beside the session (a `Draft`), and taken over whole, so that running out of memory
+//! leaves the session as it was.
 //!
 //! Source: FIX 4.4 Volume 2, "Session Protocol"; `session_law` has the table.
 #![tactic(auto)]

@@ -1,4 +1,4 @@
-//! What the lines of a link that isn't logged on give.
+//! The answers to the first message of a link.
 
 ghost use Rattle.std.specs.Prelude.{◌≡◌, ◌≤◌, ◌^◌, ◌∷◌, [], IfOk, Some};
 ghost use Rattle.session_law.specs.Session.{Shut, answered, logon_opened};
@@ -19,7 +19,7 @@ use session_reading::numbered;
 use session_writing::logon_body;
 use std::alloc::{AllocError, Global};
 
-/// What the line gives at this moment.
+/// The row's answer at this moment.
 pub fn answer_logon(
     alloc: Global,
     session: &Session,
@@ -51,7 +51,7 @@ fn end(alloc: Global, session: &Session, at: u64) -> Result<Draft, AllocError>
     Ok(draft)
 }
 
-/// A low number: a Logout, and the end.
+/// A number that is too low: a Logout, and the end.
 fn refuse(
     alloc: Global,
     session: &Session,
@@ -68,7 +68,7 @@ fn refuse(
     Ok(draft)
 }
 
-/// The client is logged on.
+/// Logs the client on.
 fn log_on(
     alloc: Global,
     session: &Session,
@@ -86,7 +86,7 @@ fn log_on(
     Ok(draft)
 }
 
-/// The client is logged on, and the gap is asked for.
+/// Logs the client on, and asks for the gap.
 fn log_on_with_gap(
     alloc: Global,
     session: &Session,
@@ -104,7 +104,7 @@ fn log_on_with_gap(
     Ok(draft)
 }
 
-/// The client is logged on, and is answered by a Logon.
+/// Logs the client on, and answers with a Logon.
 fn open(
     alloc: Global,
     session: &Session,

@@ -33,8 +33,8 @@ pub enum LogonFault {
     ResetNumber,
 }
 
-/// Why a message of a link that isn't logged on is answered by the link's end alone; `None` of a Logon that is answered,
-/// by a Logon or, where its number is too low, by a Logout. Takes no memory.
+/// Why a link's first message is answered by nothing but the link's end; `None` of a Logon that is answered, by a Logon
+/// or, if its number is too low, by a Logout. Takes no memory.
 pub fn logon_fault(session: &Session, m: &Fields) -> Option<LogonFault>
     ensures fault { result ≡ faults.logon_fault session.now.session m.now }
     ensures answered { is_none result ≡ (table.is_logon session.now.session m.now

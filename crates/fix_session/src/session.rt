@@ -22,12 +22,12 @@ use session_writing::{
 use std::alloc::{AllocError, Global};
 use std::marker::Model;
 
-/// The gateway's end of a FIX session: numbers, what is kept of them, and how it stands to its link.
+/// The gateway's end of a FIX session: numbers, what is kept for resends, and the state of its link.
 ///
-/// After an error, which is always that memory ran out, the session is as it was. `settle` and `undo` put calls back
+/// After an error, which is always that memory ran out, the session is as it was. `settle` and `undo` put back calls
 /// that succeeded: no call but these two changes how it was when it was settled.
 pub struct Session {
-    /// The names of the gateway and of the client, with their fields from the first body on that was to be issued.
+    /// The names of the gateway and of the client, with their fields from the first issued body on.
     names: Names,
     phase: Phase,
     /// The number that is expected next: at most one above a number of 18 digits.
@@ -37,7 +37,7 @@ pub struct Session {
     given: UndoBodies,
     /// The session's time, which all that is written or kept bears: the latest moment of all calls. It never goes back.
     latest: u64,
-    /// The moment of the last body that was to be issued, with its text. Contracts don't see it.
+    /// The moment of the last issued body, with its text. Contracts don't see it.
     stamped: Stamped,
     /// The rest of how it was when it was settled last.
     settled: Settled,
@@ -58,7 +58,7 @@ impl Drop for Session {
     }
 }
 
-/// How a session was when it was settled, but for its names, which stay, and what numbers were given to.
+/// How a session was when it was settled, without its names, which never change, and what numbers were given to.
 #[derive(Clone, Copy)]
 struct Settled {
     phase: Phase,
@@ -94,19 +94,19 @@ impl Model for Session {
     ghost invariant = { λ s. (s.expected ≤ 10 ^ 18) × (s.settled.expected ≤ 10 ^ 18) };
 }
 
-/// What a call gives.
+/// The result of a call.
 #[derive(Drop)]
 pub struct SessionTurn {
-    /// What goes to the link, in order.
+    /// The output to the link, in order.
     pub outs: Vec<SessionOut>,
     /// Whether the message is delivered to the application, which reads it by `application_of`.
     pub is_delivered: bool,
 }
 
-/// What issuing a body gives.
+/// The result of issuing a body.
 #[derive(Drop)]
 pub struct IssuedTurn {
-    /// What goes to the link: the bytes of its frame, where the client is logged on.
+    /// The bytes of its frame, if the client is logged on.
     pub frame: Option<Vec<u8>>,
     /// The body as it was issued, written or not.
     pub report: IssuedReport,
@@ -154,7 +154,7 @@ impl Session {
         }
     }
 
-    /// It can be put back to how it is now. Takes no memory.
+    /// From now on it can be put back to how it is now. Takes no memory.
     pub fn settle(&mut self)
         ensures { self.new ≡ record self.old { settled = self.old.session } }
     {
@@ -166,7 +166,7 @@ impl Session {
         self.given.settle();
     }
 
-    /// It is as it was when it was settled last, before that as it was at first. Takes no memory.
+    /// Puts it back to how it was when it was settled last, or at first. Takes no memory.
     pub fn undo(&mut self)
         ensures { self.new ≡ record self.old { session = self.old.settled } }
     {
@@ -207,8 +207,8 @@ impl Session {
         self.expected
     }
 
-    /// Issues a body: it takes a number and is kept, and is written where the client is logged on. Its text is made
-    /// once, in the report's: the frame and what is kept are copies of it.
+    /// Issues a body: it takes a number and is kept for resends, and is written if the client is logged on. Its text is
+    /// made once, in the report: the frame and what is kept are copies of it.
     pub fn issue(
         &mut self,
         alloc: Global,
@@ -276,7 +276,7 @@ impl Session {
         self.tick_step(alloc, at)
     }
 
-    /// Whether anything is due at this moment: whether a tick would give the link anything. One that gives it nothing
+    /// Whether anything is due at this moment: whether a tick would produce output to the link. One that doesn't
     /// changes no more than the session's latest moment. Takes no memory.
     pub fn is_due(&self, at: u64) -> bool
         ensures { result ≡ nat_lt 0 (length (step self.now.session at OnTick).outs) }
@@ -284,8 +284,8 @@ impl Session {
         gives_anything(due_at(self.phase, self.latest.max(at)))
     }
 
-    /// Why a message of a link that isn't logged on is answered by the link's end alone; `None` of a Logon that is
-    /// answered. Takes no memory.
+    /// Why a link's first message is answered by nothing but the link's end; `None` of a Logon that is answered. Takes
+    /// no memory.
     ///
     /// Source: FIX 4.4 Volume 2, "Logon".
     pub fn logon_fault(&self, m: &Fields) -> Option<LogonFault>
@@ -354,7 +354,7 @@ impl Session {
         self.given.given().len() as u64
     }
 
-    /// Issues a body: it takes a number and is kept, and is written where the client is logged on.
+    /// Issues a body: it takes a number and is kept, and is written if the client is logged on.
     fn issue_step(
         &mut self,
         alloc: Global,
@@ -397,7 +397,8 @@ impl Session {
         report_of_body(alloc, &self.names, self.last() + 1, kind, moment, body)
     }
 
-    /// A frame of the client. Where it is judged, nothing changes; what it brings is made, and then taken over whole.
+    /// A frame of the client. While it is judged, nothing changes; its answer is made in a draft, and then taken over
+    /// whole.
     fn message_step(
         &mut self,
         alloc: Global,
@@ -422,7 +423,7 @@ impl Session {
         }
     }
 
-    /// A frame of a link that isn't logged on.
+    /// The first frame of a link.
     fn on_first(&mut self, alloc: Global, m: &Fields, at: u64) -> Result<SessionTurn, AllocError>
         requires expected { self.old.session.expected ≤ 10 ^ 18 }
         ensures meets { IfOk result (λ turn. Meets self.old.session (by_rows (heard (at_moment at self.old.session))
@@ -459,7 +460,8 @@ impl Session {
         self.take(alloc, draft)
     }
 
-    /// A message with the expected number is delivered: it is heard, and the next number is expected. Takes no memory.
+    /// Delivers the message with the expected number: it counts as received, and the next number is expected. Takes no
+    /// memory.
     fn deliver(&mut self, alloc: Global, at: u64) -> SessionTurn
         requires expected { self.old.session.expected < 10 ^ 18 }
         ensures meets { (m : Message) → Meets self.old.session (answered (heard (at_moment at self.old.session))
@@ -493,7 +495,7 @@ impl Session {
         }
     }
 
-    /// Takes over what a draft has made, all of it or nothing.
+    /// Takes over what a draft has, all of it or nothing.
     fn take(&mut self, alloc: Global, draft: Draft) -> Result<SessionTurn, AllocError>
         requires expected { draft.expected ≤ 10 ^ 18 }
         ensures ok { IfOk result (λ turn. Meets self.old.session (made self.old.session draft) turn self.new.session) }
@@ -514,7 +516,7 @@ impl Session {
         })
     }
 
-    /// What a draft has made for the link, in bytes.
+    /// A draft's output, in bytes.
     fn drafted_outs(&self, alloc: Global, draft: &Draft) -> Result<Vec<SessionOut>, AllocError>
         ensures { IfOk result (λ outs. map told_bytes outs.items
             ≡ map (told_of_out self.now.session.gate self.now.session.client) (made self.now.session draft.now).outs) }
@@ -525,7 +527,7 @@ impl Session {
         Ok(outs)
     }
 
-    /// Appends the numbers that are sent again, where some are asked for.
+    /// Appends the numbers that are sent again, if any are asked for.
     fn append_again(
         &self,
         alloc: Global,
@@ -546,7 +548,7 @@ impl Session {
         }
     }
 
-    /// Time passes: silence of either side brings what is due.
+    /// Time passes: silence of either side leads to what is due.
     fn tick_step(&mut self, alloc: Global, at: u64) -> Result<SessionTurn, AllocError>
         ensures meets { IfOk result (λ turn. Meets self.old.session (step self.old.session at OnTick) turn
             self.new.session) }
@@ -560,7 +562,7 @@ impl Session {
     }
 }
 
-/// How a client stands where a body was issued now: it was written where the client is logged on.
+/// The client's phase after a body was issued now: it was written if the client is logged on.
 fn phase_issued(phase: Phase, now: u64) -> Phase
     ensures { result ≡ (if is_logged_on phase then on_written now phase else phase) }
 {

@@ -1,4 +1,4 @@
-//! What a tick brings.
+//! The answers to a tick.
 
 ghost use Rattle.std.specs.Prelude.{◌≡◌, OnOk, length, nat_lt};
 ghost use Rattle.session_law.specs.Session.{State, quiet, answered};
@@ -12,7 +12,7 @@ use session_law::Kind;
 use session_reading::Due;
 use std::alloc::{AllocError, Global};
 
-/// Does what is due, from nothing on.
+/// Makes what is due, in a draft.
 pub fn do_due(
     alloc: Global,
     draft: &mut Draft,
@@ -32,7 +32,7 @@ pub fn do_due(
     }
 }
 
-/// Whether what is due gives the link anything.
+/// Whether what is due has output to the link.
 pub fn gives_anything(due: Due) -> bool
     ensures { (s : State) → result ≡ nat_lt 0 (length (answered s (due_answer due)).outs) }
 {

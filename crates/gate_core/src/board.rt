@@ -1,8 +1,8 @@
-//! How clients and ports stand between events, in numbers.
+//! The state of clients and ports between events, in numbers.
 
 use soup_session::PortState;
 
-/// How a client stands.
+/// The state of a client.
 #[derive(Clone, Copy, Debug, PartialEq, Eq, Drop)]
 pub struct ClientRow {
     /// Its current link, by the number that it came up with; `None` where it has none.
@@ -11,24 +11,24 @@ pub struct ClientRow {
     pub is_logged_on: bool,
     /// The number that is expected of its next frame (MsgSeqNum, 34).
     pub next_in: u64,
-    /// The number of the next frame that it is sent.
+    /// The number of the next frame to it.
     pub next_out: u64,
     /// How many of its orders aren't closed, by its own reports (OrdStatus, 39).
     pub open_orders: usize,
 }
 
-/// How a port stands.
+/// The state of a port.
 #[derive(Clone, Copy, Debug, PartialEq, Eq, Drop)]
 pub struct PortRow {
     /// Its current link, by the number that it came up with; `None` where it has none.
     pub link: Option<u64>,
-    /// How its session stands: with a fault, why.
+    /// The state of its session; if it is faulted, why.
     pub state: PortState,
     /// The number of the next payload that is wanted of the market.
     pub next: u64,
 }
 
-/// How all stand after so many events: the clients and the ports, in the order of the settings.
+/// The state of all clients and ports after this many events, in the order of the settings.
 #[derive(Drop)]
 pub struct Board {
     /// How many events were stepped.

@@ -39,7 +39,7 @@ impl<S: BuildHasher + Drop> Drop for Parts<S> {
     }
 }
 
-/// The place of a number from 1, where there are so many.
+/// The index of a number from 1 among this many, if it is one of them.
 fn place_of(number: u16, count: usize) -> Option<usize>
     ensures known { is_some result ≡ (nat_le 1 number && nat_le number count) }
     ensures place { IfSome result (λ place. (number ≡ place + 1) × (place < count)) }

@@ -42,7 +42,7 @@ pub(crate) fn port_rows(alloc: Global, lines: &[PortLine]) -> Result<Vec<PortRow
     Ok(rows)
 }
 
-/// The row of a client, of whose orders so many are open.
+/// The row of a client with this many open orders.
 fn client_row(line: &ClientLine, open_orders: usize) -> ClientRow
     ensures { result ≡ client_row_of open_orders line.now }
 {

@@ -1,4 +1,4 @@
-//! Whole runs: what comes of a list of events.
+//! Whole runs: a list of events, and their batches.
 
 ghost use Rattle.std.specs.Prelude.{◌≡◌, length, IfOk};
 ghost use Rattle.gate_law.specs.Holds.{Holds};
@@ -9,7 +9,7 @@ use gate_events::{Batch, Event};
 use gate_settings::Settings;
 use std::alloc::{AllocError, Global};
 
-/// What comes of these events, one after another, from no call on: a batch for each.
+/// Steps these events, one after another, from the first state of the settings on: a batch for each.
 ///
 /// All that is promised holds of them, whatever the events are.
 pub fn run_all(

@@ -1,4 +1,4 @@
-//! The value, and the call that steps it.
+//! The core as one value, and the call that steps it.
 
 ghost use Rattle.std.specs.Prelude.{[], ◌∷◌, ◌≡◌, length, IfOk, OnErr};
 
@@ -20,10 +20,10 @@ use std::marker::Model;
 /// The most events that are stepped: any that comes later gives an empty batch and changes nothing.
 const MOST_EVENTS: u64 = 1 << 48;
 
-/// Sessions of clients, orders and sessions of ports, stepped by events on one thread.
+/// Sessions of clients, the order level and sessions of ports, stepped by events on one thread.
 ///
-/// It reads no clock and no link: moments come with the events, and what links are told stands in their batches.
-/// Contracts see how it stands, and how it stood before the last step.
+/// It reads no clock and no socket: moments come with the events, and output stands in the batches. Contracts see how
+/// it stands, and how it stood before the last step.
 ///
 /// ClOrdIDs are found by indexes over any hasher, which changes nothing but how fast they are found. With a seed that
 /// nobody else knows no client can choose ids that make it slow. What the gateway numbers itself is found by a fixed
@@ -146,11 +146,10 @@ impl<S: BuildHasher + Drop> Core<S> {
         stepped
     }
 
-    /// Puts the core back to how it stood before the last step, be it that the step was made or refused: every session
-    /// with its link, every order, number and message that is outstanding. A second call changes nothing. Takes no
-    /// memory.
+    /// Puts the core back to how it stood before the last step, whether that was made or refused: every session with
+    /// its link, every order, number and outstanding message. A second call changes nothing. Takes no memory.
     ///
-    /// So who can't keep a step's batch for want of memory makes the step again later.
+    /// So a caller that can't keep a step's batch, because memory ran out, makes the step again later.
     pub fn undo(&mut self)
         ensures now { self.new.now ≡ self.old.settled }
         ensures settled { self.new.settled ≡ self.old.settled }
@@ -168,7 +167,7 @@ impl<S: BuildHasher + Drop> Core<S> {
         self.settled_events = self.events;
     }
 
-    /// Steps an event. Where memory runs out a part of what the event brings may have been done.
+    /// Steps an event. If memory runs out, a part of it may have been done.
     fn advance(&mut self, alloc: Global, event: &Event) -> Result<Batch, AllocError>
         ensures after { IfOk result (λ batch. (s : law.Settings) (before : History) → IsAfter s before self.old
             → IsAfter s (turn_of event.now batch ∷ before) self.new) }
@@ -184,7 +183,7 @@ impl<S: BuildHasher + Drop> Core<S> {
     }
 
     /// Whom the batch of this event may name, if it is stepped next: at most one client and one port, and nobody that
-    /// the settings don't have. A batch names nobody else; whom it may name it need not. Takes no memory.
+    /// the settings don't have. A batch names nobody else, and may name fewer. Takes no memory.
     pub fn targets(&self, event: &Event) -> Targets
         ensures client { (s : law.Settings) (before : History) → IsAfter s before self.now
             → result.client ≡ client_for s (event_seen event.now) (lists s before) }
@@ -197,7 +196,7 @@ impl<S: BuildHasher + Drop> Core<S> {
         self.parts.targets(event)
     }
 
-    /// The number that is expected of a client's next frame (MsgSeqNum, 34); none of a client that the settings don't
+    /// The number that is expected of a client's next frame (MsgSeqNum, 34); `None` of a client that the settings don't
     /// have. Takes no memory.
     ///
     /// Source: FIX 4.4 Volume 2, "Message Recovery".
@@ -208,9 +207,9 @@ impl<S: BuildHasher + Drop> Core<S> {
         self.parts.next_in(client)
     }
 
-    /// Whether this event gives anything, or may: `false` of a tick for which the session's table has no row just now, and
-    /// of one for a client or port that the settings don't have. Such a tick gives an empty batch, and changes no more
-    /// than the session's latest moment: whoever has time pass may leave it out. Takes no memory.
+    /// Whether this event produces anything, or may: `false` of a tick for which the session's table has no row just
+    /// now, and of one for a client or port that the settings don't have. Such a tick gives an empty batch, and changes
+    /// no more than the session's latest moment: it may be left out. Takes no memory.
     pub fn is_due(&self, alloc: Global, event: &Event) -> bool
         ensures { (s : law.Settings) (before : History) → IsAfter s before self.now
             → result ≡ event_due s (lists s before) (event_seen event.now) }
@@ -218,8 +217,8 @@ impl<S: BuildHasher + Drop> Core<S> {
         self.parts.is_due(alloc, event)
     }
 
-    /// Why a frame of a client's link that isn't logged on is answered by the link's end alone; `None` of a Logon that is
-    /// answered, and of a client that the settings don't have. Takes no memory.
+    /// Why a link's first frame is answered by nothing but the link's end; `None` of a Logon that is answered, and of a
+    /// client that the settings don't have. Takes no memory.
     ///
     /// Source: FIX 4.4 Volume 2, "Logon".
     pub fn logon_fault(&self, client: ClientNumber, frame: &Fields) -> Option<LogonFault>
@@ -237,8 +236,8 @@ impl<S: BuildHasher + Drop> Core<S> {
         self.parts.port_fault(port)
     }
 
-    /// How all clients and ports stand, and how many events were stepped. It goes through no order: its time is that of
-    /// a few numbers for each client and port.
+    /// The state of all clients and ports, and how many events were stepped. It goes through no order: its time is that
+    /// of a few numbers for each client and port.
     pub fn board(&self, alloc: Global) -> Result<Board, AllocError>
         ensures { IfOk result (λ board. (s : law.Settings) (before : History) → IsAfter s before self.now
             → IsBoard s before board) }

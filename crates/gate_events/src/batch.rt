@@ -1,4 +1,4 @@
-//! What an event gives.
+//! A batch: all that one event produces.
 
 ghost use Rattle.std.specs.Prelude.{◌≡◌, ◌==◌, ◌&&◌, not, is_some, length};
 
@@ -8,7 +8,7 @@ use session_law::IssuedReport;
 use short_list::ShortList;
 use soup_session::PortFault;
 
-/// What a link is told.
+/// One output to a link.
 #[derive(Debug, Drop)]
 pub enum LinkOut {
     /// The bytes of one frame or packet are to be written.
@@ -17,7 +17,7 @@ pub enum LinkOut {
     Close { link: u64 },
 }
 
-/// What one event gives. It names a client just where there is something for one, and a port likewise.
+/// All that one event produces. It names a client just if there is something for one, and a port likewise.
 #[derive(Debug)]
 pub struct Batch {
     /// The client that something is for, where there is one.
@@ -25,11 +25,11 @@ pub struct Batch {
     /// Each report and reject as it was issued, with its number, be its frame written or not: the fields from MsgType
     /// (35) on.
     pub reports: ShortList<IssuedReport>,
-    /// What the client's link is told, in order.
+    /// The output to the client's link, in order.
     pub client_out: ShortList<LinkOut>,
     /// The port that something is for, where there is one.
     pub port: Option<PortNumber>,
-    /// What the port's link is told, in order.
+    /// The output to the port's link, in order.
     pub port_out: ShortList<LinkOut>,
     /// The fault of the port's packet or payload: the port stays closed.
     pub fault: Option<PortFault>,
@@ -55,7 +55,7 @@ impl Batch {
     ghost use Rattle.std.specs.Prelude.{◌≡◌, map};
     ghost use Rattle.gate_events.specs.Seen.{link_out_seen};
 
-    /// What its client's link is told, and what its port's is, moved out. Takes no memory.
+    /// The outputs to its client's link and to its port's, moved out. Takes no memory.
     pub fn into_told(self) -> (Told, Told)
         ensures client { result.0 ≡ map link_out_seen self.client_out.items }
         ensures port { result.1 ≡ map link_out_seen self.port_out.items }

@@ -1,4 +1,4 @@
-//! Whether what a link is told closes it.
+//! Whether a link's output closes it.
 
 ghost use Rattle.std.specs.Prelude.{◌≡◌, map};
 ghost use Rattle.gate_law.specs.After.{is_close};

@@ -1,14 +1,14 @@
-//! What comes to the gateway.
+//! An event: one thing that comes to the gateway.
 
 use crate::client_frame::ClientFrame;
 use crate::number::{ClientNumber, PortNumber};
 use soup_packets::Packet;
 
-/// What comes: a link is up, brings a whole frame or packet, or is gone; or time passes.
+/// What comes to the gateway: a link is up, brings a whole frame or packet, or is gone; or time passes.
 ///
-/// Clients and ports go by their numbers, from 1 in the order of the settings, links by numbers that the caller
-/// gives. A frame prints in at most 8,192 bytes. `at` is a moment in milliseconds since 1970; one before an earlier
-/// one counts as no time passed.
+/// Clients and ports go by their numbers, from 1 in the order of the settings, links by numbers that the caller gives.
+/// A frame prints in at most 8,192 bytes. `at` is a moment in milliseconds since 1970; one before an earlier one counts
+/// as no time passed.
 #[derive(Debug, Drop)]
 pub enum Event {
     /// A client's link is up.

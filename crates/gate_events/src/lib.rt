@@ -1,5 +1,5 @@
-//! Events, what comes to the gateway's core, and batches, what it gives for each, as values. The core steps them;
-//! rings, links and the journal carry them, and know nothing of sessions.
+//! Events, which come to the gateway's core, and batches, what it produces for each, as values. The core steps them;
+//! queues, links and the journal carry them, and know nothing of sessions.
 #![tactic(auto)]
 
 mod batch;

@@ -1,4 +1,4 @@
-//! Whom an event comes from, and whom a batch is for.
+//! Whom an event comes from, and whom a batch has output for.
 
 ghost use Rattle.std.specs.Prelude.{◌≡◌, IfOk, map};
 ghost use Rattle.gate_events.specs.Seen.{batch_seen, link_out_seen};
@@ -22,7 +22,7 @@ pub enum Source {
     Clock,
 }
 
-/// Whom a batch tells something.
+/// Whom a batch has output for.
 #[derive(Clone, Copy, Debug, PartialEq, Eq)]
 pub enum Recipient {
     /// A client's link.
@@ -165,7 +165,7 @@ impl ClientFrame {
 }
 
 impl Batch {
-    /// What the link of a client or a port is told, in order; nothing where the batch doesn't name it. Takes no memory.
+    /// The output to a client's or a port's link, in order; nothing where the batch doesn't name it. Takes no memory.
     pub fn told(&self, to: Recipient) -> &[LinkOut]
         ensures { map link_out_seen result.now ≡ told_to to (batch_seen self.now) }
     {

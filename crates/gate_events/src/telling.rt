@@ -1,4 +1,4 @@
-//! What batches told one link.
+//! The outputs of batches to one link.
 
 ghost use Rattle.std.specs.Prelude.{◌≡◌, ◌++◌, IfOk, map};
 ghost use Rattle.gate_events.specs.Seen.{batch_seen};
@@ -9,7 +9,7 @@ use crate::source::Recipient;
 use crate::told::Told;
 use std::alloc::{AllocError, Global};
 
-/// What batches told one link, in order, once more: a list for each batch that told it something.
+/// Copies the outputs of batches to one link, in order: a list for each batch that has some.
 pub fn told_lists(
     alloc: Global,
     batches: &[Batch],

@@ -1,4 +1,4 @@
-//! What one link is told by one batch, as a list.
+//! The output of one batch to one link, as a list.
 
 ghost use Rattle.std.specs.Prelude.{◌≡◌, IfOk, map};
 ghost use Rattle.gate_events.specs.Seen.{link_out_seen};
@@ -8,7 +8,7 @@ use short_list::ShortList;
 use std::alloc::{AllocError, Global};
 use std::marker::Model;
 
-/// What a link is told, in order. Contracts see the list.
+/// Outputs to one link, in order. Contracts see the list.
 #[derive(Debug, Drop)]
 pub struct Told {
     outs: ShortList<LinkOut>,

@@ -4,7 +4,7 @@
 //! sessions included, and what follows is printed before the next line is taken: the client's lines first, then the
 //! port's. A script says all that happens, so the same script always prints the same.
 //!
-//! A line that isn't understood ends the run, and so do want of memory and a read or write that fails. What earlier
+//! A line that isn't understood ends the run, and so do a lack of memory and a read or write that fails. What earlier
 //! lines printed stays.
 //!
 //! `run_script` runs a script, `run_script_with` with a hasher, `audit_script` audits what it comes to, `write_audit`

@@ -1,4 +1,4 @@
-//! The two halves of a line: what its links are opened and read with, and what they are written with.
+//! A line's two halves: one thread opens and reads its links, the other writes them.
 
 ghost use Rattle.std.specs.Prelude.{◌≡◌, ◌≤◌, ◌<◌, true, IfNone, IfSome};
 ghost use Rattle.gate_serving.specs.Halves.{ReadsDid, WritesDid};
@@ -19,7 +19,7 @@ use std::io::Read;
 use std::sync::Wait;
 use std::sync::atomic::{AtomicBool, Ordering};
 
-/// What a line's links are opened and read with.
+/// What the reading half works with.
 #[derive(Drop)]
 pub(crate) struct Reads<'a, O, A, W, K> {
     pub(crate) peer: Recipient,
@@ -32,7 +32,7 @@ pub(crate) struct Reads<'a, O, A, W, K> {
     pub(crate) all_over: bool,
 }
 
-/// What a line's links are written with.
+/// What the writing half works with.
 #[derive(Drop)]
 pub(crate) struct Writes<'a, B, W, K> {
     pub(crate) peer: Recipient,
@@ -52,7 +52,7 @@ where
 {
     ghost did = { ReadsDid O.has_ended O.opened G.was_put G.was_taken };
 
-    /// Opens and reads the line's links, and tells the writer that no further one comes.
+    /// Opens and reads the line's links; then tells the writer that no further one comes.
     fn run<R: Wait>(self, rt: &R, alloc: Global, flag: &AtomicBool) -> Self {
         let mut reads = self;
         let all_over = reads.read_links(rt, alloc, flag);
@@ -105,8 +105,8 @@ where
         false
     }
 
-    /// Hands the link's other half to the line's writer, and reads the link until it is over and its writer has ended.
-    /// `None` where the line has no writer: then nothing is read.
+    /// Hands the link's other direction to the line's writer, and reads the link until it is over and its writer has
+    /// ended. `None` if the line has no writer: then nothing is read.
     fn read_link<R: Wait>(
         &mut self,
         rt: &R,
@@ -174,8 +174,8 @@ where
     K: Closer + Drop,
 {
     #[tactic(auto, using(crate::proofs::Served::none_written))]
-    /// Writes links, numbered from 1 as they come, until no further one does. What is told between two of them is for
-    /// links that are over: it is let go.
+    /// Writes links, numbered from 1 as they come, until no further one does. Output queued between two links is for
+    /// those that are over: it is dropped.
     fn write_links<R: Wait>(&mut self, rt: &R, alloc: Global, flag: &AtomicBool)
         ensures written { LineWrittenBy (HasEnded W.contents) self.old.worker self.new.worker }
     {
@@ -188,8 +188,8 @@ where
         }
     }
 
-    /// The link behind so many, once there is one; `None` where none comes. Until then what is told links that are over
-    /// is let go, so that no event waits for one of them.
+    /// The next link, once there is one; `None` if none comes. Until then output for links that are over is dropped, so
+    /// that no event waits for its room.
     fn next_link<R: Wait>(
         &self,
         rt: &R,

@@ -1,4 +1,4 @@
-//! What threads do with what they own: it goes in by value and comes back by value.
+//! Work for threads: it goes into a thread by value and comes back by value.
 
 ghost use Rattle.std.specs.Prelude.{◌≤◌, ◌<◌, ◌++◌, [], ◌∷◌, vec_len, vec_capacity};
 ghost use Rattle.std.specs.List.{AllZip};
@@ -18,7 +18,7 @@ pub(crate) trait Job {
     // What was done between the job as it was and as it came back.
     ghost did: { Self → Self → Type 0 };
 
-    /// Does it, and comes back with what came of it. It ends soon once the flag is set. It starts no thread.
+    /// Does the work and comes back with the result. It ends soon once the flag is set. It starts no thread.
     fn run<R: Wait>(self, rt: &R, alloc: Global, flag: &AtomicBool) -> Self
         ensures did { did self result };
 }
@@ -31,7 +31,7 @@ impl<J: Job> Promise<J> for Keeps<J> {
     ghost kept_by = { λ p job. MayBeDone J.did p.0.value job };
 }
 
-/// Does a job, unless no thread could be had for it: then the flag is set.
+/// Does a job, unless no thread could be started for it: then the flag is set.
 fn run_unless<R: Wait, J: Job>(
     rt: &R,
     alloc: Global,
@@ -48,8 +48,8 @@ fn run_unless<R: Wait, J: Job>(
 }
 
 /// Does all jobs at once, each in a thread of its own, and gives them back in their order; meanwhile the calling thread
-/// does one that is to be done there. Where a thread can't be had the flag is set, and the jobs that had none come back
-/// undone. Takes no memory of its own.
+/// does the job that is to be done there. If a thread can't be started the flag is set, and the jobs that had none come
+/// back undone. Takes no memory of its own.
 pub(crate) fn run_all<
     R: Threads + Wait + Sync,
     A: Job + Send + Drop,
@@ -130,7 +130,7 @@ fn run_pairs<R: Threads + Wait + Sync, A: Job + Send + Drop, B: Job + Send + Dro
     )
 }
 
-/// Does a job in the calling thread, where there is one.
+/// Does a job in the calling thread, if there is one.
 fn run_here<R: Wait, M: Job>(rt: &R, alloc: Global, flag: &AtomicBool, job: Option<M>) -> Option<M>
     ensures { WasDone M.did job result }
 {

@@ -1,5 +1,5 @@
-//! Serves lines: the links of each client and of each port, one after the other, all lines at once, while time passes.
-//! The reader and the writer of a link run in a thread each, over any opener, gate, pen and clock.
+//! Serves lines: each client's and each port's links, one after the other, all lines at once, while time passes. The
+//! reader and the writer of a link run in a thread each, over any opener, handle to the core, pen and clock.
 #![tactic(auto)]
 
 mod halves;

@@ -12,17 +12,17 @@ pub trait Opener {
 
     ghost has_ended: { Self → Type 0 };
 
-    /// What is read of a link.
+    /// What a link is read by.
     type Reader;
 
-    /// What is written to it.
+    /// What a link is written by.
     type Writer;
 
     /// What shuts its stream down.
     type Closer;
 
-    /// The next link, once there is one; `ReadFailed` where it could not be opened: the next call tries again. `None`
-    /// after the last one.
+    /// The next link, once there is one; `ReadFailed` if it couldn't be opened: the next call tries again. `None` after
+    /// the last one. It may wait.
     fn open(
         &mut self,
     ) -> Option<Result<Opened<Self::Reader, Self::Writer, Self::Closer>, LinkFault>>
@@ -30,12 +30,12 @@ pub trait Opener {
             (λ _. opened self.new ≡ opened self.old + 1) (λ _. opened self.new ≡ opened self.old)) }
         ensures last { IfNone result ((opened self.new ≡ opened self.old) × has_ended self.new) };
 
-    /// Is told how the link that was opened last has ended.
+    /// Reports how the link that was opened last has ended.
     fn ended(&mut self, end: LinkEnd)
         ensures same { opened self.new ≡ opened self.old };
 }
 
-/// A link that was opened: its stream, by what is done with it.
+/// A link that was opened: its stream's two directions, and its closer.
 #[derive(Drop)]
 pub struct Opened<R, W, K> {
     pub reader: R,
@@ -45,12 +45,12 @@ pub struct Opened<R, W, K> {
 
 /// Shuts a link's stream down.
 pub trait Closer {
-    /// Has the peer get what was written, and a reader that waits for the stream come to its end: as soon as the peer
-    /// has closed too, or after a while. `is_read` is set once the link's reader has ended.
+    /// Lets the peer get what was written, and ends the reader's wait for the stream: as soon as the peer has closed
+    /// too, or after a while. `is_read` is set once the link's reader has ended.
     fn close(&mut self, is_read: &AtomicBool);
 }
 
-/// How the two workers of a link ended.
+/// How the reader and the writer of a link ended.
 #[derive(Clone, Copy, Debug, PartialEq, Eq)]
 pub struct LinkEnd {
     /// The number of the link among its line's, from 1.

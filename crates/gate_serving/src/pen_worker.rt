@@ -1,4 +1,4 @@
-//! A pen as what writes a line's links.
+//! The writing side of a line: its pen, and the clock of its writer.
 
 ghost use Rattle.std.specs.Prelude.{◌≡◌, ◌≤◌, IfSome};
 ghost use Rattle.gate_workers.specs.Pens.{HasEnded, WasWritten};
@@ -10,7 +10,7 @@ use std::io::Write;
 use std::sync::Wait;
 use std::sync::atomic::AtomicBool;
 
-/// The writer of a line's links: their pen, which other threads hold too, and its clock.
+/// The writer of a line's links: their pen, which other threads lock too, and its clock.
 #[derive(Drop)]
 pub struct PenWorker<'a, W: Prompt + Drop, G: Gate + Drop, C> {
     pen: &'a Pen<W, G>,
@@ -18,7 +18,7 @@ pub struct PenWorker<'a, W: Prompt + Drop, G: Gate + Drop, C> {
 }
 
 impl<'a, W: Prompt + Drop, G: Gate + Drop, C> PenWorker<'a, W, G, C> {
-    /// Of this pen, with the clock of its writer. Takes no memory.
+    /// Over this pen, with the writer's clock. Takes no memory.
     pub fn new(pen: &'a Pen<W, G>, clock: C) -> PenWorker<'a, W, G, C>
         ensures pen { result.pen.now ≡ pen.now }
     {
@@ -27,8 +27,8 @@ impl<'a, W: Prompt + Drop, G: Gate + Drop, C> PenWorker<'a, W, G, C> {
 }
 
 impl<'a, W: Prompt + Drop, G: Gate + Drop, C: Clock> PenWorker<'a, W, G, C> {
-    /// Opens the link of this number of a client or port at the pen, and writes it until it is over, with so many steps
-    /// at most. `WriteFailed` where the pen has another one open, or this isn't its next one.
+    /// Opens a link at the pen, and writes it until it is over, in this many steps at most. `WriteFailed` if the pen
+    /// has another one open, or this isn't its next one.
     pub(crate) fn write<R: Wait>(
         &mut self,
         rt: &R,
@@ -54,8 +54,7 @@ impl<'a, W: Prompt + Drop, G: Gate + Drop, C: Clock> PenWorker<'a, W, G, C> {
         end_of(written)
     }
 
-    /// Lets go what lies there between two links, and has the core stepped, since an event may have waited for the
-    /// room.
+    /// Drops output that is queued between two links, and steps the core, since an event may have waited for the room.
     pub(crate) fn let_go<R: Wait>(&self, rt: &R, alloc: Global) {
         self.pen.let_go(rt, alloc);
     }

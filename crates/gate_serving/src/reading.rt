@@ -9,7 +9,7 @@ use std::alloc::Global;
 use std::io::Read;
 use std::sync::Wait;
 
-/// Reads the link of this number of a client or port until it is over, with so many steps at most.
+/// Reads the link of this number of a client or port until it is over, in this many steps at most.
 pub(crate) fn read<R: Wait, S: Read, G: Gate, C: Clock>(
     rt: &R,
     alloc: Global,

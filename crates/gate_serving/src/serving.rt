@@ -1,4 +1,4 @@
-//! All lines at once.
+//! Serving all lines at once.
 
 ghost use Rattle.std.specs.Prelude.{◌≡◌, true, false, IfOk, IfErr};
 ghost use Rattle.std.specs.List.{AllZip};
@@ -25,7 +25,7 @@ use std::thread::Threads;
 pub enum ServeFault {
     /// Memory ran out before the first link was opened.
     NoMemory,
-    /// No thread could be had for a line, or for a link. The links that were open were served to their end.
+    /// No thread could be started for a line, or for a link. The links that were open were served to their end.
     NoThread,
 }
 
@@ -33,11 +33,11 @@ pub enum ServeFault {
 type Lines<'p, O, G, C, W, H, D> = Vec<Line<O, Worker<G, C>, PenWorker<'p, W, H, D>>>;
 
 /// Serves all lines at once, each in two threads of its own, and hands them back in their order once all have ended.
-/// `Ok` where the links of each were read to the last that its opener had. Meanwhile time passes in the calling thread,
-/// where there are ticks, until their flag is set.
+/// `Ok` if the links of each were read to the last that its opener had. Meanwhile the calling thread makes time pass,
+/// if there are ticks, until their flag is set.
 ///
-/// `NoMemory` before any thread starts: lines and ticks are as they were. `NoThread` once one can't be had: from then
-/// on no further link is opened.
+/// `NoMemory` before any thread starts: lines and ticks are as they were. `NoThread` once one can't be started: from
+/// then on no further link is opened.
 pub fn serve<'p, 't, R, O, G, C, H, D>(
     rt: &R,
     alloc: Global,

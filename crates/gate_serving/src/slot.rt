@@ -1,4 +1,4 @@
-//! Where a line's reader hands its writer the next link.
+//! The slot by which a line's reader hands its writer the next link.
 
 use gate_workers::{LinkFault, WriterEnd};
 use std::mem;
@@ -23,13 +23,13 @@ pub(crate) struct Given<W, K> {
 #[derive(Drop)]
 pub(crate) enum Next<W, K> {
     Link(Given<W, K>),
-    /// No link, for a moment.
+    /// No link yet.
     NotYet,
     /// No further link comes.
     Over,
 }
 
-/// What lies between the two threads of a line.
+/// What the slot holds.
 #[derive(Drop)]
 enum State<W, K> {
     /// No link.
@@ -65,13 +65,13 @@ impl<W: Drop, K: Drop> Slot<W, K> {
         }
     }
 
-    /// Tells the link's writer that its reader has ended.
+    /// The flag that tells the link's writer that its reader has ended.
     pub(crate) fn stop(&self) -> &AtomicBool {
         &self.stop
     }
 
-    /// Hands the writer a link, and waits until it is taken. It isn't where the line has no writer, or `halt` is set
-    /// before: then the link goes.
+    /// Hands the writer a link, and waits until it is taken. It isn't if the line has no writer, or `halt` is set
+    /// before: then the link is dropped.
     pub(crate) fn offer<R: Wait>(&self, rt: &R, halt: &AtomicBool, given: Given<W, K>) -> bool {
         self.stop.store(false, Ordering::SeqCst);
         if !self.put(rt, given) {
@@ -87,7 +87,7 @@ impl<W: Drop, K: Drop> Slot<W, K> {
         unreachable!()
     }
 
-    /// Lays a link down, unless the line is over.
+    /// Puts a link into the slot, unless the line is over.
     fn put<R: Wait>(&self, rt: &R, given: Given<W, K>) -> bool {
         let mut state = self.state.lock(rt);
         if let State::Over = &*state {
@@ -97,7 +97,7 @@ impl<W: Drop, K: Drop> Slot<W, K> {
         true
     }
 
-    /// Whether the link that was laid down is taken; `None` while that isn't settled.
+    /// Whether the link was taken; `None` while that isn't settled.
     fn is_taken<R: Wait>(&self, rt: &R, halt: &AtomicBool) -> Option<bool> {
         let mut state = self.state.lock(rt);
         match &*state {
@@ -141,7 +141,7 @@ impl<W: Drop, K: Drop> Slot<W, K> {
         self.writer.unpark();
     }
 
-    /// The link that lies there; it naps where none does. None comes any more once `halt` is set and none lies there.
+    /// The link in the slot; it naps if there is none. None comes any more once `halt` is set and the slot is empty.
     pub(crate) fn next<R: Wait>(&self, rt: &R, halt: &AtomicBool) -> Next<W, K> {
         match self.take(rt, halt) {
             State::Given(given) => {
@@ -156,7 +156,7 @@ impl<W: Drop, K: Drop> Slot<W, K> {
         }
     }
 
-    /// The link that lies there, `Over` where none comes, or else `Empty`.
+    /// Takes the link out of the slot; `Over` if none comes, `Empty` if there is none yet.
     fn take<R: Wait>(&self, rt: &R, halt: &AtomicBool) -> State<W, K> {
         let mut state = self.state.lock(rt);
         if let State::Empty = &*state {

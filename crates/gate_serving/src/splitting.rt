@@ -12,7 +12,7 @@ use std::alloc::{AllocError, Global};
 /// The two halves of a line.
 pub(crate) type Halves<'a, O, A, B, W, K> = (Reads<'a, O, A, W, K>, Writes<'a, B, W, K>);
 
-/// So many slots, without a link each.
+/// This many slots, each without a link.
 pub(crate) fn slots_of<W: Drop, K: Drop>(
     alloc: Global,
     count: usize,

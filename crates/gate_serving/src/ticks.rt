@@ -1,4 +1,4 @@
-//! Time that passes while lines are served.
+//! Time while lines are served.
 
 ghost use Rattle.gate_serving.specs.Passed.{TicksDid};
 
@@ -8,7 +8,7 @@ use std::alloc::Global;
 use std::sync::Wait;
 use std::sync::atomic::AtomicBool;
 
-/// For how many clients and ports time passes, and until which flag is set; what their ticks go through.
+/// For how many clients and ports time passes, until which flag is set, and the handle that takes the ticks.
 #[derive(Drop)]
 pub struct Ticks<'a, G, C> {
     pub clients: u16,
@@ -21,7 +21,7 @@ pub struct Ticks<'a, G, C> {
 impl<'a, G: Gate, C: Clock> Job for Ticks<'a, G, C> {
     ghost did = { TicksDid G.was_put G.was_taken };
 
-    /// Has time pass until its own flag is set.
+    /// Makes time pass until its own flag is set.
     fn run<R: Wait>(self, rt: &R, alloc: Global, _flag: &AtomicBool) -> Self {
         let Ticks {
             clients,

@@ -1,4 +1,4 @@
-//! A client's line: its current link, and its session.
+//! A client's current link and session.
 
 ghost use Rattle.std.specs.Prelude.{◌≡◌, ℕ, List, [], None, true, false};
 ghost use Rattle.gate_law.specs.session_law.Runs.{Timed};
@@ -11,13 +11,13 @@ use fix_types::AppBody;
 use gate_law::{Fields, Text};
 use std::alloc::{AllocError, Global};
 
-/// A client's current link, where it has one, and its session over all its links.
+/// A client's current link, if it has one, and its session over all its links.
 pub struct ClientLine {
     pub link: Option<u64>,
     pub session: Session,
-    /// The link when the line was settled, where something came since.
+    /// The link when the line was settled, if anything came since.
     pub settled_link: Option<u64>,
-    /// Something came since the line was settled last.
+    /// Whether anything came since the line was settled last.
     pub is_touched: bool,
 }
 
@@ -49,7 +49,7 @@ impl ClientLine {
         }
     }
 
-    /// It is as it was when it was settled last.
+    /// Puts it back to how it was when it was settled last.
     pub fn undo(&mut self)
         ensures now { client_now self.new ≡ client_settled self.old }
         ensures settled { client_settled self.new ≡ client_settled self.old }
@@ -60,7 +60,7 @@ impl ClientLine {
         }
     }
 
-    /// Something comes: what it was before is kept, unless something came since it was settled.
+    /// Before anything comes: keeps what the line was, unless something came since it was settled.
     pub(crate) fn touch(&mut self)
         ensures session { self.new.session.session ≡ self.old.session.session }
         ensures link { self.new.link ≡ self.old.link }
@@ -74,7 +74,7 @@ impl ClientLine {
         }
     }
 
-    /// Whether a tick of this moment would give the client's link anything. Takes no memory.
+    /// Whether a tick of this moment would produce output to the client's link. Takes no memory.
     pub fn is_due(&self, at: u64) -> bool
         ensures { (s : Settings) (c : ℕ) (calls : List Timed) → ClientLeaves s c calls self.now.session.session
             → result ≡ is_client_due s c calls at }
@@ -82,7 +82,7 @@ impl ClientLine {
         self.session.is_due(at)
     }
 
-    /// Why a frame of a link that isn't logged on is answered by the link's end alone. Takes no memory.
+    /// Why a link's first frame is answered by nothing but the link's end. Takes no memory.
     pub fn logon_fault(&self, frame: &Fields) -> Option<LogonFault>
         ensures { (s : Settings) (c : ℕ) (calls : List Timed) → ClientLeaves s c calls self.now.session.session
             → result ≡ logon_fault_in s c calls frame.now }

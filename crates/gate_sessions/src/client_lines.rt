@@ -1,4 +1,4 @@
-//! The lines of all clients, and the calls on the one at a place.
+//! All clients' links and sessions, and the calls on the one at an index.
 
 ghost use Rattle.std.specs.Prelude.{◌≡◌, ◌<◌, ◌+◌, ℕ, List, [], ◌∷◌, Some, None, IfOk, OnOk, OnErr, length, map, true};
 ghost use Rattle.std.specs.Prelude.{false};
@@ -20,14 +20,14 @@ use fix_types::AppBody;
 use gate_law::Fields;
 use std::alloc::{AllocError, Global};
 
-/// The line of each client, by its place: number i + 1 stands at place i.
+/// The link and session of each client, by its index: number i + 1 stands at index i.
 #[derive(Drop)]
 pub struct Clients {
     pub lines: Vec<ClientLine>,
 }
 
 impl Clients {
-    /// A link is current from now on.
+    /// A link becomes current.
     pub fn up(&mut self, alloc: Global, place: usize, link: u64, at: u64)
         requires place { place < length self.old.lines.items }
         ensures leave { ClientsCalled place (at, OnLink true) self.old self.new }
@@ -106,7 +106,7 @@ impl Clients {
         line.session.on_tick(alloc, at)
     }
 
-    /// A body is issued, written or not.
+    /// Issues a body: written, or kept alone.
     pub fn issue(
         &mut self,
         alloc: Global,
@@ -133,7 +133,7 @@ impl Clients {
         line.session.issue(alloc, body, at)
     }
 
-    /// Each line can be put back to how it is now. Takes no memory.
+    /// From now on each line can be put back to how it is now. Takes no memory.
     pub fn settle(&mut self)
         ensures now { map client_now self.new.lines.items ≡ map client_now self.old.lines.items }
         ensures settled { map client_settled self.new.lines.items ≡ map client_now self.old.lines.items }
@@ -143,7 +143,7 @@ impl Clients {
         }
     }
 
-    /// Each line is as it was when it was settled last. Takes no memory.
+    /// Puts each line back to how it was when it was settled last. Takes no memory.
     pub fn undo(&mut self)
         ensures now { map client_now self.new.lines.items ≡ map client_settled self.old.lines.items }
         ensures settled { map client_settled self.new.lines.items ≡ map client_settled self.old.lines.items }

@@ -1,4 +1,4 @@
-//! Several bodies issued on the client's line at a place, one after another, as its link is told them.
+//! Issuing several bodies to a client, one after another.
 
 ghost use Rattle.std.specs.Prelude.{◌≡◌, ◌<◌, ◌+◌, ℕ, List, ◌++◌, Option, IfOk, OnOk, length, map};
 ghost use Rattle.fix_types.specs.Application.{body_fields};
@@ -23,16 +23,16 @@ use session_law::IssuedReport;
 use short_list::ShortList;
 use std::alloc::{AllocError, Global};
 
-/// What comes of bodies that are issued to one client.
+/// The result of issuing bodies to one client.
 #[derive(Drop)]
 pub struct Issues {
-    /// Each body, in order, as it was issued, be its frame written or not: the fields from MsgType (35) on.
+    /// Each body, in order, as it was issued, whether its frame was written or not: the fields from MsgType (35) on.
     pub reports: ShortList<IssuedReport>,
-    /// What the client's link is told, in order.
+    /// The output to the client's link, in order.
     pub outs: ShortList<LinkOut>,
 }
 
-/// Issues bodies, in their order, each once, and gives what is reported of each and what the current link is told.
+/// Issues bodies, in their order, each once, and gives the report of each and the output to the current link.
 ///
 /// `AllocError` leaves every link and the number of lines as they were; how many of the bodies were issued isn't said.
 pub fn client_issue_all(
@@ -73,7 +73,7 @@ pub fn client_issue_all(
     Ok(all)
 }
 
-/// Issues a body, and takes over what is reported of it and what this link is told.
+/// Issues a body, and adds its report and its output.
 fn issue_one(
     clients: &mut Clients,
     alloc: Global,
@@ -102,7 +102,7 @@ fn issue_one(
     tell_frame(alloc, link, frame, &mut all.outs)
 }
 
-/// A frame goes onto this link, where there are both.
+/// Adds a frame for this link, if there are both.
 fn tell_frame(
     alloc: Global,
     link: Option<u64>,
@@ -118,7 +118,7 @@ fn tell_frame(
     }
 }
 
-/// A frame goes onto a link, where there is one.
+/// A frame as output to a link, if there is one.
 fn write_frame(
     alloc: Global,
     link: u64,

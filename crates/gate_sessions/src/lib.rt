@@ -1,6 +1,6 @@
-//! The lines of the core: of each client and each port its current link and its session, found by their places.
+//! Links and sessions of all clients and ports, found by their indexes, and their output to the current links.
 //!
-//! A call on one line changes that line alone. Clauses speak of all places at once, in the words of `gate_law`: which
+//! A call on one client or port changes that one alone. Clauses speak of all at once, in the words of `gate_law`: which
 //! calls each session has had, and which link is current.
 #![tactic(auto)]
 

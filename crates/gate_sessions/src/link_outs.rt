@@ -1,4 +1,4 @@
-//! What sessions say, as their links are told it.
+//! Outputs of sessions, as outputs to their links.
 
 ghost use Rattle.std.specs.Prelude.{◌≡◌, ◌++◌, map, option_to_list, IfOk};
 ghost use Rattle.fix_session.specs.session_writing.Written.{told_bytes};
@@ -12,8 +12,8 @@ use gate_law::PortOut;
 use short_list::ShortList;
 use std::alloc::{AllocError, Global};
 
-/// What a client's session said, onto its link where there is one, and then these. Takes no memory where it said
-/// nothing.
+/// The outputs of a client's session to its link, if there is one, and then these. Takes no memory if the session has
+/// none.
 pub(crate) fn told_first(
     alloc: Global,
     link: Option<u64>,
@@ -32,7 +32,7 @@ pub(crate) fn told_first(
     Ok(all)
 }
 
-/// What a client's session said goes onto its link, where there is one.
+/// Adds the outputs of a client's session to its link, if there is one.
 fn tell_client(
     alloc: Global,
     link: Option<u64>,
@@ -61,8 +61,8 @@ fn client_line(link: u64, out: SessionOut) -> LinkOut
     }
 }
 
-/// What a port's session said, onto its link where there is one, and then these. Takes no memory where it said
-/// nothing.
+/// The output of a port's session to its link, if there is one, and then these. Takes no memory if the session has
+/// none.
 pub(crate) fn port_told_first(
     alloc: Global,
     link: Option<u64>,
@@ -80,7 +80,7 @@ pub(crate) fn port_told_first(
     Ok(all)
 }
 
-/// What a port's session said in one call, as its link is told it, where there is one.
+/// The output of a port's session in one call, to its link, if there is one.
 pub fn told_out(
     alloc: Global,
     link: Option<u64>,
@@ -93,7 +93,7 @@ pub fn told_out(
     Ok(outs)
 }
 
-/// What a port's session said goes onto its link, where there is one.
+/// Adds the output of a port's session to its link, if there is one.
 pub(crate) fn tell_port(
     alloc: Global,
     link: Option<u64>,
@@ -109,7 +109,7 @@ pub(crate) fn tell_port(
     }
 }
 
-/// What a port's session said goes onto a link.
+/// Adds the output of a port's session to a link.
 fn write_port(
     alloc: Global,
     link: u64,

@@ -1,4 +1,4 @@
-//! A line is told what its session said, and loses its link where that closes it.
+//! Output to current links: a link that it closes is current no more.
 
 ghost use Rattle.std.specs.Prelude.{◌≡◌, ◌<◌, ◌+◌, ◌++◌, ℕ, length, map, Option, option_to_list, IfOk};
 ghost use Rattle.fix_session.specs.session_writing.Written.{told_bytes};
@@ -17,7 +17,8 @@ use gate_law::PortOut;
 use short_list::ShortList;
 use std::alloc::{AllocError, Global};
 
-/// Tells the link of the client at a place what its session said in one call, and then what it is to be told of others.
+/// The output of a client's session in one call, and then other output to the client, to its current link; if that
+/// closes the link, it is current no more.
 pub fn told_client(
     clients: &mut Clients,
     alloc: Global,
@@ -41,7 +42,8 @@ pub fn told_client(
     Ok(outs)
 }
 
-/// Tells the link of the port at a place what its session said in one call, and then what it is to be told of others.
+/// The output of a port's session in one call, and then other output to the port, to its current link; if that closes
+/// the link, it is current no more.
 pub fn told_port(
     ports: &mut Ports,
     alloc: Global,
@@ -69,7 +71,7 @@ pub fn told_port(
     Ok(outs)
 }
 
-/// The current link of the client at a place goes where these close it.
+/// Drops the client's current link if these close it.
 fn close_client(clients: &mut Clients, place: usize, outs: &[LinkOut])
     requires place { place < length clients.old.lines.items }
     ensures leave { ClientsUncalled clients.old clients.new }
@@ -83,7 +85,7 @@ fn close_client(clients: &mut Clients, place: usize, outs: &[LinkOut])
     }
 }
 
-/// The current link of the port at a place goes where these close it.
+/// Drops the port's current link if these close it.
 fn close_port(ports: &mut Ports, place: usize, outs: &[LinkOut])
     requires place { place < length ports.old.lines.items }
     ensures leave { PortsUncalled ports.old ports.new }
@@ -98,7 +100,7 @@ fn close_port(ports: &mut Ports, place: usize, outs: &[LinkOut])
     }
 }
 
-/// What goes to the link of a turn that delivers no message.
+/// The outputs of a turn that delivers no message.
 pub fn only_outs(turn: SessionTurn) -> Vec<SessionOut>
     ensures { result ≡ turn.outs }
 {

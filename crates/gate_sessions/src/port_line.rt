@@ -1,4 +1,4 @@
-//! A port's line: its current link, and its session.
+//! A port's current link and session.
 
 ghost use Rattle.std.specs.Prelude.{◌≡◌, ◌≤◌, ℕ, List, [], length, None};
 ghost use Rattle.gate_law.specs.soup_session.Table.{PortCall};
@@ -12,7 +12,7 @@ use gate_law::{PortFault, PortSession, PortState, PortTurn};
 use soup_packets::{Packet, Payload};
 use std::alloc::{AllocError, Global};
 
-/// A port's current link, where it has one, and its session over all its links.
+/// A port's current link, if it has one, and its session over all its links.
 pub struct PortLine {
     pub link: Option<u64>,
     pub session: PortSession,
@@ -49,7 +49,7 @@ impl PortLine {
         }
     }
 
-    /// Whether a tick of this moment would give the port's link anything. Takes no memory.
+    /// Whether a tick of this moment would produce output to the port's link. Takes no memory.
     pub fn is_due(&self, alloc: Global, at: u64) -> bool
         ensures { (s : Settings) (p : ℕ) (calls : List PortCall) → PortLeaves s p calls self.now.session.port
             → result ≡ is_port_due s p calls at }
@@ -57,7 +57,7 @@ impl PortLine {
         self.session.is_due(alloc, at)
     }
 
-    /// How the port stands.
+    /// The state of the port.
     pub fn state(&self) -> PortState
         ensures now { result ≡ self.now.session.port.state }
         ensures state { (s : Settings) (p : ℕ) (calls : List PortCall) → PortLeaves s p calls self.now.session.port

@@ -1,4 +1,4 @@
-//! The lines of all ports, and the calls on the one at a place.
+//! All ports' links and sessions, and the calls on the one at an index.
 
 ghost use Rattle.std.specs.Prelude.{◌≡◌, ◌<◌, ◌+◌, ◌^◌, ℕ, Some, None, IfOk, OnErr, length, map};
 ghost use Rattle.gate_law.specs.order_law.ouch_codec.Inbound.{inbound_bytes};
@@ -12,14 +12,14 @@ use gate_law::{Inbound, PortFault, PortTurn};
 use soup_packets::{Packet, Payload};
 use std::alloc::{AllocError, Global};
 
-/// The line of each port, by its place: number i + 1 stands at place i.
+/// The link and session of each port, by its index: number i + 1 stands at index i.
 #[derive(Drop)]
 pub struct Ports {
     pub lines: Vec<PortLine>,
 }
 
 impl Ports {
-    /// A link is current from now on.
+    /// A link becomes current.
     pub fn up(
         &mut self,
         alloc: Global,
@@ -95,7 +95,7 @@ impl Ports {
         self.lines[place].session.on_tick(alloc, at)
     }
 
-    /// A message goes out while the port is up. One growth.
+    /// Sends a message while the port is up. One growth.
     pub fn send(
         &mut self,
         alloc: Global,
@@ -132,7 +132,7 @@ impl Ports {
         self.lines[place].session.fail(fault)
     }
 
-    /// Each line can be put back to how it is now.
+    /// From now on each line can be put back to how it is now.
     pub fn settle(&mut self)
         ensures now { map port_now self.new.lines.items ≡ map port_now self.old.lines.items }
         ensures settled { map port_settled self.new.lines.items ≡ map port_now self.old.lines.items }
@@ -143,7 +143,7 @@ impl Ports {
         }
     }
 
-    /// Each line is as it was when it was settled last.
+    /// Puts each line back to how it was when it was settled last.
     pub fn undo(&mut self)
         ensures now { map port_now self.new.lines.items ≡ map port_settled self.old.lines.items }
         ensures settled { map port_settled self.new.lines.items ≡ map port_settled self.old.lines.items }
@@ -155,7 +155,7 @@ impl Ports {
     }
 }
 
-/// The payload of a message's packet, with room for what stands in front of it there. One growth.
+/// The payload of a message's packet, with room in it for the packet's front. One growth.
 fn payload_of(alloc: Global, message: &Inbound) -> Result<Payload, AllocError>
     ensures { IfOk result (λ payload. payload ≡ inbound_bytes message.now) }
 {

@@ -1,4 +1,4 @@
-//! Several messages sent on the port's line at a place, one after another, as its link is told them.
+//! Sending several messages on a port, one after another.
 
 ghost use Rattle.std.specs.Prelude.{◌≡◌, ◌<◌, ◌+◌, ℕ, List, ◌++◌, Option, IfOk, length, map};
 ghost use Rattle.gate_law.specs.order_law.ouch_codec.Inbound.{inbound_bytes};
@@ -16,7 +16,7 @@ use gate_law::Inbound;
 use short_list::ShortList;
 use std::alloc::{AllocError, Global};
 
-/// Sends messages, in their order, each once, while the port is up, and gives what the current link is told.
+/// Sends messages, in their order, each once, while the port is up, and gives the output to the current link.
 ///
 /// `AllocError` leaves every link and the number of lines as they were; how many of the messages were sent isn't said.
 pub fn port_send_all(
@@ -50,7 +50,7 @@ pub fn port_send_all(
     Ok(outs)
 }
 
-/// Sends a message, and takes over what this link is told.
+/// Sends a message, and adds its output.
 fn send_one(
     ports: &mut Ports,
     alloc: Global,

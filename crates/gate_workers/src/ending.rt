@@ -5,7 +5,7 @@ ghost use Rattle.link_io.specs.Limits.{end_by};
 
 use link_io::LinkFault;
 
-/// Whether a link is over after this fault: it is after each but want of memory.
+/// Whether this fault ends a link: each does but running out of memory.
 pub fn ends_link(fault: LinkFault) -> bool
     ensures { result ≡ is_some (end_by fault) }
 {

@@ -1,9 +1,9 @@
-//! The workers of a link and the ticker: each a call that a thread of its own makes, over any gate, stream and clock.
-//! It returns when its link, or the day, is over.
+//! The loops of a gateway's threads: reading a link, writing a link, and ticking. Each is a call over any stream, clock
+//! and handle to the core (`Gate`), and returns when its link, or the day, is over.
 //!
-//! A reader puts the event that its link is up, the events of its stream, and the event that the link is gone. A
-//! writer writes what its link is told, until the link is closed or it is stopped, by a pen: a connection's writer that
-//! any thread may lock for a prompt write, such as the one that has just stepped the core. The ticker has time pass.
+//! A reader puts the event that its link is up, the events of its stream, and the event that the link is gone. A writer
+//! writes its link's output until the link is closed or the writer is stopped, through a `Pen`: a writer that any
+//! thread may lock for a prompt write, such as the thread that has just stepped the core. The ticker makes time pass.
 #![tactic(auto)]
 
 mod clock;

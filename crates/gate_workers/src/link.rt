@@ -1,9 +1,9 @@
-//! The link that a pen writes now.
+//! The link that a pen writes.
 
 use link_io::BatchWriter;
 use std::snapshot::Snapshot;
 
-/// The link that is written now.
+/// The link that is being written.
 #[derive(Drop)]
 pub struct Link<W, G> {
     pub writer: BatchWriter,

@@ -1,4 +1,4 @@
-//! A pen.
+//! A writer that several threads share.
 
 ghost use Rattle.std.specs.Prelude.{◌≡◌, ◌≤◌, [], IfOk, IfErr, IfSome};
 ghost use Rattle.gate_workers.specs.WritersWork.{LineWritten};
@@ -14,14 +14,14 @@ use std::snapshot::Snapshot;
 use std::sync::atomic::{AtomicBool, Ordering};
 use std::sync::{Mutex, Wait};
 
-/// How many lists are let go at most in one call.
+/// How many lists are dropped at most in one call.
 const LET_GO: u32 = 4_096;
 
-/// Writes what the links of a line are told, one link after the other, whoever holds it: the line's writer, and for a
-/// moment any other thread, where the writer is idle.
+/// Writes the output of a line's links, one link after the other, by whichever thread holds its lock: the line's own
+/// writer, or for a moment another thread while that one is idle.
 ///
-/// Its lock keeps, whoever wrote: of the bytes of a link in the lists that were taken since it was opened, in order,
-/// those in front are on its stream, and the rest is held.
+/// Under the lock it holds, whoever wrote: of a link's bytes in the lists taken since the link was opened, in order,
+/// the first ones are on its stream, and the rest is kept.
 #[derive(Drop)]
 pub struct Pen<W: Prompt + Drop, G: Gate + Drop> {
     work: Mutex<Work<W, G>>,
@@ -30,7 +30,7 @@ pub struct Pen<W: Prompt + Drop, G: Gate + Drop> {
 }
 
 impl<W: Prompt + Drop, G: Gate + Drop> Pen<W, G> {
-    /// Over a gate of which nothing was taken. Takes no memory.
+    /// Over a handle from which nothing was taken. Takes no memory.
     pub fn new(gate: G) -> Pen<W, G>
         requires fresh { G.was_taken gate ≡ [] }
         ensures first { result.first.value ≡ gate }
@@ -42,9 +42,9 @@ impl<W: Prompt + Drop, G: Gate + Drop> Pen<W, G> {
         }
     }
 
-    /// Opens the link of this number, of the client or port of that one, on this stream, once the pen could be had. Its
-    /// writer makes so many steps, 1 or more. The stream comes back where a link is written already, or this isn't the
-    /// next one: links are numbered from 1.
+    /// Opens link number `link` of the client or port `number` on this stream; its writer makes `steps` steps, 1 or
+    /// more. Waits for the lock. The stream comes back if a link is open already, or this isn't the next one: links are
+    /// numbered from 1.
     pub fn open<R: Wait>(
         &self,
         rt: &R,
@@ -60,9 +60,9 @@ impl<W: Prompt + Drop, G: Gate + Drop> Pen<W, G> {
         self.work.lock(rt).open(alloc, number, link, steps, stream)
     }
 
-    /// Writes what lies there for the link by one prompt write, where nobody else holds the pen. It waits for nobody
-    /// but the stream, as long as a prompt write waits. Whether nothing is left: else the line's writer has to wake,
-    /// and goes on with it.
+    /// Writes what is queued for the link by one prompt write, if nobody else holds the lock. Waits for nothing but the
+    /// stream, as long as a prompt write does. `true` if nothing is left; else the line's writer has to be woken, and
+    /// goes on with it.
     pub fn write(&self, alloc: Global) -> bool {
         match self.work.try_lock() {
             Some(mut work) => work.write(alloc),
@@ -70,13 +70,12 @@ impl<W: Prompt + Drop, G: Gate + Drop> Pen<W, G> {
         }
     }
 
-    /// Writes what the link is told until it is closed, or `stop` is set and nothing lies there, or a fault ends it:
-    /// how it ended, and its stream. `None` where no link is open. It is the call of the line's writer: it waits for
-    /// whoever holds the pen, pauses where nothing lay there or memory ran out, and has the core stepped where it took
-    /// a list.
+    /// The loop of the line's writer: writes the link's output until the link is closed, or `stop` is set and nothing
+    /// is queued, or a fault ends it. How it ended, and its stream; `None` if no link is open. It waits for the lock,
+    /// pauses if nothing was queued or memory ran out, and steps the core if it took a list.
     ///
-    /// `WriteFailed` where a write failed or took no byte, `StepLimit` at the last of the link's steps: of what the
-    /// link was told the first bytes went out.
+    /// `WriteFailed` if a write failed or took no byte, `StepLimit` at the last of the link's steps: of the link's
+    /// output the first bytes went out.
     pub fn write_all<R: Wait, C: Clock>(
         &self,
         rt: &R,
@@ -98,7 +97,7 @@ impl<W: Prompt + Drop, G: Gate + Drop> Pen<W, G> {
         unreachable!()
     }
 
-    /// A step of the line's writer, and where it took a list a turn.
+    /// A step of the line's writer; if it took a list, the core is stepped.
     fn step<R: Wait>(&self, rt: &R, alloc: Global, is_stopped: bool) -> Stepped<W>
         ensures { IsWritten W.contents result }
     {
@@ -110,9 +109,8 @@ impl<W: Prompt + Drop, G: Gate + Drop> Pen<W, G> {
         stepped
     }
 
-    /// Takes what lies there between two links, and lets it go, once the pen could be had: it is for links that are
-    /// over. It has the core stepped, since an event may have waited for the room. Before the first link nothing is
-    /// taken.
+    /// Drops output that is queued between two links: it is for links that are over. Waits for the lock. Steps the
+    /// core, since an event may have waited for the room. Before the first link nothing is dropped.
     pub fn let_go<R: Wait>(&self, rt: &R, alloc: Global) {
         let mut work = self.work.lock(rt);
         for _ in 0..LET_GO {
@@ -123,7 +121,7 @@ impl<W: Prompt + Drop, G: Gate + Drop> Pen<W, G> {
         }
     }
 
-    /// The gate, where no link is open; else the pen as it is.
+    /// The handle, if no link is open; else the pen as it is.
     pub fn into_gate(self) -> Result<G, Pen<W, G>>
         ensures written { IfOk result (λ gate. ∥ LineWritten [] (G.was_taken gate) ∥₁) }
     {

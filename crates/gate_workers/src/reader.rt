@@ -1,4 +1,4 @@
-//! The worker that reads a link.
+//! The loop of a thread that reads a link.
 
 ghost use Rattle.std.specs.Prelude.{◌≡◌, ◌≤◌, ◌++◌, ◌∷◌, [], ℕ};
 ghost use Rattle.link_io.specs.Events as law;
@@ -18,11 +18,11 @@ use std::alloc::Global;
 use std::io::Read;
 use std::sync::Wait;
 
-/// Reads a link of this client until it is over: puts that it is up, what its stream brings, and that it is gone. It
-/// has the core stepped after each of them, and pauses where the gate gave an event back or memory ran out.
+/// Reads a link of this client until it is over: puts the event that it is up, the events of its stream, and the event
+/// that it is gone. It steps the core after each, and pauses if an event was given back or memory ran out.
 ///
-/// `Ok` at the end of the stream. `ReadFailed` where a read failed, `Malformed` where too long a frame is announced:
-/// what stood whole before it is put. `StepLimit` at the step of number `steps`, 1 or more.
+/// `Ok` at the end of the stream. `ReadFailed` if a read failed, `Malformed` if too long a frame is announced: the
+/// events before it are put. `StepLimit` at step number `steps`, 1 or more.
 pub fn client_reader<R: Wait, S: Read, G: Gate, C: Clock>(
     rt: &R,
     alloc: Global,
@@ -122,7 +122,7 @@ fn read_all<R: Wait, D: Decoder, S: Read, G: Gate, C: Clock>(
     unreachable!()
 }
 
-/// Puts an event, as soon as there is room for it.
+/// Puts an event as soon as there is room for it.
 fn put<R: Wait, G: Gate, C: Clock>(rt: &R, alloc: Global, event: Event, gate: &mut G, clock: &mut C)
     ensures put { G.was_put gate.new ≡ G.was_put gate.old ++ event_seen event ∷ [] }
     ensures none_taken { G.was_taken gate.new ≡ G.was_taken gate.old }

@@ -1,17 +1,17 @@
-//! What a step of a pen came to.
+//! What a step of a pen did.
 
 use crate::writer::WriterEnd;
 use link_io::LinkFault;
 
-/// What a step of a pen came to.
+/// What a step of a pen did.
 #[derive(Drop)]
 pub enum Stepped<W> {
     /// It took a list, and the link goes on.
     Taken,
-    /// Nothing lay there, or memory ran out. The link goes on.
+    /// Nothing was queued, or memory ran out. The link goes on.
     Nothing,
     /// The link is over: how it ended, and its stream.
     Over(Result<WriterEnd, LinkFault>, W),
-    /// No link is written.
+    /// No link is open.
     NoLink,
 }

@@ -1,4 +1,4 @@
-//! The worker that has time pass.
+//! The loop of the thread that makes time pass.
 
 ghost use Rattle.std.specs.Prelude.{◌≡◌, ℕ};
 ghost use Rattle.link_io.specs.Seen.{event_seen};
@@ -10,8 +10,8 @@ use std::alloc::Global;
 use std::sync::Wait;
 use std::sync::atomic::{AtomicBool, Ordering};
 
-/// Puts a tick for each client and each port, from 1 to so many, has the core stepped after each, and pauses, again and
-/// again until `stop` is set. A tick that is given back is let go: the next round brings a later one.
+/// Puts a tick for each client and each port, numbered from 1, steps the core after each, and pauses; again and again
+/// until `stop` is set. A tick that is given back is dropped: the next round brings a later one.
 pub fn ticker<R: Wait, G: Gate, C: Clock>(
     rt: &R,
     alloc: Global,
@@ -36,7 +36,7 @@ pub fn ticker<R: Wait, G: Gate, C: Clock>(
     unreachable!()
 }
 
-/// A tick of this moment for each client.
+/// Puts a tick of this moment for each client.
 fn tick_clients<R: Wait, G: Gate>(rt: &R, alloc: Global, clients: u16, at: u64, gate: &mut G)
     ensures ticks { (ports : ℕ) → PutsTicks clients ports (G.was_put gate.old) (G.was_put gate.new) }
     ensures none_taken { G.was_taken gate.new ≡ G.was_taken gate.old }
@@ -47,7 +47,7 @@ fn tick_clients<R: Wait, G: Gate>(rt: &R, alloc: Global, clients: u16, at: u64, 
     }
 }
 
-/// A tick of this moment for each port.
+/// Puts a tick of this moment for each port.
 fn tick_ports<R: Wait, G: Gate>(rt: &R, alloc: Global, ports: u16, at: u64, gate: &mut G)
     ensures ticks { (clients : ℕ) → PutsTicks clients ports (G.was_put gate.old) (G.was_put gate.new) }
     ensures none_taken { G.was_taken gate.new ≡ G.was_taken gate.old }
@@ -58,7 +58,7 @@ fn tick_ports<R: Wait, G: Gate>(rt: &R, alloc: Global, ports: u16, at: u64, gate
     }
 }
 
-/// Puts an event, where there is room for it, and has the core stepped.
+/// Puts an event if there is room for it, and steps the core.
 fn tick<R: Wait, G: Gate>(rt: &R, alloc: Global, event: Event, gate: &mut G)
     ensures put { MayPut (event_seen event) (G.was_put gate.old) (G.was_put gate.new) }
     ensures none_taken { G.was_taken gate.new ≡ G.was_taken gate.old }

@@ -1,4 +1,4 @@
-//! What whoever writes a line's links works with.
+//! What a pen's lock guards.
 
 ghost use Rattle.std.specs.Prelude.{◌≡◌, ◌≤◌, ◌+◌, [], None, Some, true, false, IfOk, IfErr, OnOk};
 ghost use Rattle.gate_workers.specs.WritersWork.{LineWritten};
@@ -14,10 +14,10 @@ use std::alloc::{AllocError, Global};
 use std::snapshot::Snapshot;
 use std::sync::Wait;
 
-/// A line's gate, and the link that is written now.
+/// A handle to the core, and the link that is being written.
 ///
-/// It keeps, whoever wrote: of what the lists tell the link that were taken since it was opened, in order, the first
-/// bytes are on its stream, behind what was there, and the rest is held.
+/// It holds, whoever wrote: of the link's bytes in the lists taken since it was opened, in order, the first ones are on
+/// its stream, behind what was there, and the rest is kept.
 #[derive(Drop)]
 pub struct Work<W: Prompt + Drop, G: Gate + Drop> {
     gate: G,
@@ -28,7 +28,7 @@ pub struct Work<W: Prompt + Drop, G: Gate + Drop> {
 }
 
 impl<W: Prompt + Drop, G: Gate + Drop> Work<W, G> {
-    /// Of this gate, of which nothing was taken.
+    /// Over this handle, from which nothing was taken.
     pub fn new(gate: G) -> Work<W, G>
         requires fresh { G.was_taken gate ≡ [] }
         ensures gate { result.gate ≡ gate }
@@ -41,8 +41,8 @@ impl<W: Prompt + Drop, G: Gate + Drop> Work<W, G> {
         }
     }
 
-    /// Opens the link of this number, of the client or port of that one, on this stream, with so many steps, 1 or more.
-    /// The stream comes back where a link is written already, or this isn't the next one: links are numbered from 1.
+    /// Opens link number `link` of the client or port `number` on this stream, with this many steps, 1 or more. The
+    /// stream comes back if a link is open already, or this isn't the next one: links are numbered from 1.
     pub fn open(
         &mut self,
         alloc: Global,
@@ -81,8 +81,8 @@ impl<W: Prompt + Drop, G: Gate + Drop> Work<W, G> {
         Ok(())
     }
 
-    /// Takes the lists that lie there, and writes what they tell the link by one prompt write. Whether that was all,
-    /// and none of them closes the link; else the rest is left to the next step, as `BatchWriter::step_once` does.
+    /// Takes queued lists, and writes what they have for the link by one prompt write. `true` if that was all and none
+    /// of them closes the link; else the rest is left to the next step (`BatchWriter::step_once`).
     pub fn write(&mut self, alloc: Global) -> bool
         ensures same { SameLink self.old.link self.new.link }
         ensures tries { LinkTried W.did_try self.old.link self.new.link }
@@ -98,7 +98,7 @@ impl<W: Prompt + Drop, G: Gate + Drop> Work<W, G> {
         }
     }
 
-    /// A step of the link's writer. Where the link is over by it, closed, stopped or by a fault, its stream comes back.
+    /// A step of the link's writer. If it ends the link (closed, stopped or a fault), the stream comes back.
     pub fn step(&mut self, alloc: Global, is_stopped: bool) -> Stepped<W>
         ensures steps { StepsPen W.contents G.was_taken result self.old.links self.old.link self.new.link
             self.new.gate }
@@ -126,8 +126,7 @@ impl<W: Prompt + Drop, G: Gate + Drop> Work<W, G> {
         }
     }
 
-    /// Takes a list that lies there, and lets it go, where no link is written and one was: it is for links that are
-    /// over. Whether there was one.
+    /// Drops one queued list, if no link is open and one was: it is for links that are over. Whether there was one.
     pub fn let_go(&mut self) -> bool
         ensures link { (self.new.link ≡ self.old.link) × (self.new.links ≡ self.old.links) }
         ensures none_put { G.was_put self.new.gate ≡ G.was_put self.old.gate }
@@ -142,7 +141,7 @@ impl<W: Prompt + Drop, G: Gate + Drop> Work<W, G> {
         self.gate.take().is_some()
     }
 
-    /// Has the core stepped, as the gate does.
+    /// Steps the core, as the handle does.
     pub fn turn<R: Wait>(&mut self, rt: &R, alloc: Global) -> Result<u32, AllocError>
         ensures link { (self.new.link ≡ self.old.link) × (self.new.links ≡ self.old.links) }
         ensures none_put { G.was_put self.new.gate ≡ G.was_put self.old.gate }
@@ -151,7 +150,7 @@ impl<W: Prompt + Drop, G: Gate + Drop> Work<W, G> {
         self.gate.turn(rt, alloc)
     }
 
-    /// The gate, where no link is written; else all is as it was.
+    /// The handle, if no link is open; else all as it was.
     pub fn into_gate(self) -> Result<G, Work<W, G>>
         ensures gate { IfOk result (λ gate. gate ≡ self.gate) }
         ensures written { IfOk result (λ gate. ∥ LineWritten [] (G.was_taken gate) ∥₁) }
@@ -169,7 +168,7 @@ impl<W: Prompt + Drop, G: Gate + Drop> Work<W, G> {
     }
 }
 
-/// How a link ended by a step that came to this, where it did.
+/// How a link ended by such a step, if it did.
 fn ended(wrote: Result<Wrote, LinkFault>, is_stopped: bool) -> Option<Result<WriterEnd, LinkFault>>
     ensures { result ≡ step_end wrote is_stopped }
 {

@@ -1,4 +1,4 @@
-//! The worker that writes a link.
+//! The loop of a thread that writes a link.
 
 ghost use Rattle.std.specs.Prelude.{◌≤◌, IfSome};
 ghost use Rattle.gate_workers.specs.Pens.{WasWritten};
@@ -10,7 +10,7 @@ use std::alloc::Global;
 use std::sync::Wait;
 use std::sync::atomic::AtomicBool;
 
-/// How a writer's worker ended, but for a fault.
+/// How a writer ended without a fault.
 #[derive(Clone, Copy, Debug, PartialEq, Eq)]
 pub enum WriterEnd {
     /// The core closed the link: its stream is to be shut down.
@@ -19,14 +19,14 @@ pub enum WriterEnd {
     Stopped,
 }
 
-/// Opens the link of this number of a client at its pen, on this stream, and writes what the link is told, until the
-/// core closes it, or until `stop` is set and nothing lies there: how it ended, and its stream. Other threads may write
-/// promptly by the same pen meanwhile. It pauses where nothing lay there, or memory ran out; where it took a list it
-/// has the core stepped, since an event may have waited for the room.
+/// Opens a client's link at its pen on this stream, and writes the link's output until the core closes it, or until
+/// `stop` is set and nothing is queued. How it ended, and its stream. Other threads may write promptly by the same pen
+/// meanwhile. It pauses if nothing was queued or memory ran out; if it took a list it steps the core, since an event
+/// may have waited for the room.
 ///
-/// `WriteFailed` where a write failed or took no byte, `StepLimit` at the step of number `steps`, 1 or more: of what
-/// the link was told the first bytes went out. `None` where the pen has another link open, or this
-/// isn't the pen's next one: then nothing is written.
+/// `WriteFailed` if a write failed or took no byte, `StepLimit` at step number `steps`, 1 or more: of the link's output
+/// the first bytes went out. `None` if the pen has another link open, or this isn't its next one: then nothing is
+/// written.
 pub fn client_writer<R: Wait, W: Prompt + Drop, G: Gate + Drop, C: Clock>(
     rt: &R,
     alloc: Global,
@@ -54,7 +54,7 @@ pub fn client_writer<R: Wait, W: Prompt + Drop, G: Gate + Drop, C: Clock>(
     )
 }
 
-/// Opens the link of this number of a port at its pen, and writes what it is told, as `client_writer` does.
+/// Opens a port's link at its pen, and writes its output, as `client_writer` does.
 pub fn port_writer<R: Wait, W: Prompt + Drop, G: Gate + Drop, C: Clock>(
     rt: &R,
     alloc: Global,
@@ -82,7 +82,7 @@ pub fn port_writer<R: Wait, W: Prompt + Drop, G: Gate + Drop, C: Clock>(
     )
 }
 
-/// The same, of the client or port of this number.
+/// The same for the client or port of this number.
 fn write_link<R: Wait, W: Prompt + Drop, G: Gate + Drop, C: Clock>(
     rt: &R,
     alloc: Global,

@@ -42,8 +42,8 @@ abbrev pub number_fault : Version → ℕ → List ℕ → Option PageFault
 number_fault One number page = None
 number_fault Two number page = if page_number page == number then None else Some faults.Number
 
--- What is wrong with a page behind a place and so many records, be it the last or not: what is wrong with it alone comes
--- first, then its number, then what is wrong with its records behind those before.
+-- What is wrong with a page behind a place and so many records, be it the last or not: what is wrong with it alone
+-- comes first, then its number, then what is wrong with its records behind those before.
 abbrev pub page_fault_in_day : Version → Bool → ℕ → Place → List ℕ → Option PageFault
 page_fault_in_day version last number place page = unless (page_fault version page)
     (unless (number_fault version number page)

@@ -14,8 +14,8 @@ use journal_pages::{PageFault, Place, Records, Version, judge, page_number};
 
 /// The version of pages that are those of a day, one behind another; else the place of the first page, from 0, with
 /// which something is wrong, and what: what is wrong with the page alone, then `Number` where its number isn't that of
-/// the records before it, then what is wrong with its records behind those before, then `Order` where it is the last one
-/// and ends inside a batch. All are judged as of the version of the first. Takes no memory.
+/// the records before it, then what is wrong with its records behind those before, then `Order` where it is the last
+/// one and ends inside a batch. All are judged as of the version of the first. Takes no memory.
 pub fn judge_day(pages: &[Vec<u8>]) -> Result<Version, (u32, PageFault)>
     ensures { MatchResult result
         (λ version. (version ≡ version_of (texts pages.now)) × (day_fault version (texts pages.now) ≡ None))

@@ -136,8 +136,8 @@ page_number text = if nat_lt (length text) (front_size Two) then 0 else from_be_
 abbrev pub page_front : ℕ → List ℕ
 page_front number = page_name Two ++ to_be_bytes w64 number
 
--- Why a text is no page of a version, if it isn't one. A page has a record. Its number is compared where pages stand one
--- behind another, and not here.
+-- Why a text is no page of a version, if it isn't one. A page has a record. Its number is compared where pages stand
+-- one behind another, and not here.
 abbrev pub page_fault : Version → List ℕ → Option PageFault
 page_fault version text =
     if not (bytes_eq (take 4 text) (page_name version)) then Some faults.Head

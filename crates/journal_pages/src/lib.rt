@@ -1,7 +1,7 @@
 //! The journal's pages: events and what they gave, as records of bytes that can be kept, sent and read again.
 //!
-//! A page is `GJ02`, the number of records before it in the history (8 bytes) and records; a record is a kind (1 byte), a
-//! source (2), a link (8), a moment (8), the length of the payload (4) and the payload, numbers with the high byte
+//! A page is `GJ02`, the number of records before it in the history (8 bytes) and records; a record is a kind (1 byte),
+//! a source (2), a link (8), a moment (8), the length of the payload (4) and the payload, numbers with the high byte
 //! first. A text that isn't such records is refused whole, for the first thing that is wrong with it. Pages of version
 //! 1, `GJ01` and records without a number, are judged and read too.
 //!

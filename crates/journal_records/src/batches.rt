@@ -115,8 +115,8 @@ fn append_outs(
     Ok(())
 }
 
-/// Appends one thing that a link is told. What has 2^20 bytes or more is answered as want of memory: no frame or packet
-/// has, but the type doesn't say it.
+/// Appends one thing that a link is told. What has 2^20 bytes or more is answered as a lack of memory: no frame or
+/// packet has, but the type doesn't say it.
 fn append_out(
     told: &LinkOut,
     write: RecordKind,

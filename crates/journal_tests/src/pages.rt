@@ -51,8 +51,8 @@ fn each_front_of_a_page(rt: HostRuntime) -> Result<(), Fail> {
 }
 
 /// Each byte of the page changed to every other value. A page still are: the first record's kind changed to 2, 3, 4, 6,
-/// 10, 11, 12 or 13 (8), its source's bytes but to 0 (255 and 254), its link's (8 times 255), and the page's number's (8
-/// times 255), which is compared behind other pages alone: 4,597 of 14,790.
+/// 10, 11, 12 or 13 (8), its source's bytes but to 0 (255 and 254), its link's (8 times 255), and the page's number's
+/// (8 times 255), which is compared behind other pages alone: 4,597 of 14,790.
 #[test]
 fn each_byte_of_a_page_changed(rt: HostRuntime) -> Result<(), Fail> {
     let mut pages = 0u32;

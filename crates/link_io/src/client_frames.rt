@@ -1,4 +1,4 @@
-//! The frames of a client's link, as events.
+//! From a client's bytes to its events: each frame becomes a `ClientMessage`.
 
 ghost use Rattle.std.specs.Prelude.{◌≡◌, ◌≤◌, ◌+◌, ◌++◌, ◌∷◌, [], ℕ, List, length, OnOk, OnErr, IfOk};
 ghost use Rattle.fix_framing.specs.fix_fields.Field.{Field, fields_text};
@@ -12,7 +12,7 @@ use gate_events::{ClientFrame, ClientNumber, Event};
 use std::alloc::{AllocError, Global};
 use std::marker::Model;
 
-/// Makes a client's messages of the frames of its link. Contracts see the reader of the stream.
+/// Makes a client's events of the bytes of its link, one for each frame. Contracts see the stream's reader.
 ///
 /// Source: FIX 4.4 Volume 1, "Message Format".
 #[derive(Drop)]
@@ -31,7 +31,7 @@ impl Model for ClientFrames {
 }
 
 impl ClientFrames {
-    /// Of a link of which nothing has come. Takes no memory.
+    /// For a link of which no byte has come. Takes no memory.
     pub(crate) fn new(alloc: Global, client: ClientNumber, link: u64) -> ClientFrames
         ensures client { result.client ≡ client }
         ensures link { result.link ≡ link }
@@ -77,13 +77,13 @@ impl Decoder for ClientFrames {
         }))
     }
 
-    /// As the reader of the stream counts them; 2^64 - 1 stands for more.
+    /// As the framer counts them; 2^64 - 1 stands for more.
     fn skipped(&self) -> u64 {
         self.framer.skipped()
     }
 }
 
-/// The next frame, out of the reader.
+/// Moves the next frame out of the framer.
 fn next_frame(framer: &mut Framer, alloc: Global) -> Result<Option<Fields>, LinkFault>
     ensures { NextFrame result framer.old framer.new }
 {

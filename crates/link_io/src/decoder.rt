@@ -1,12 +1,12 @@
-//! What makes events of the bytes of a stream.
+//! A decoder: bytes of a stream in, events out.
 
 use crate::link_fault::LinkFault;
 use gate_events::Event;
 use std::alloc::{AllocError, Global};
 
-/// What makes events of the bytes of a stream, one by one, of the messages that stand whole in it.
+/// Makes events of the bytes of a stream, one for each message that is whole in it.
 ///
-/// Contracts see whose they are, and what was made of which bytes.
+/// Contracts see whose events they are, and which events were made of which bytes.
 pub trait Decoder: Drop {
     ghost use Rattle.std.specs.Prelude.{◌≡◌, ◌++◌, ℕ, List, Bool, OnOk, OnErr, IfOk, IfSome};
     ghost use Rattle.gate_law.specs.Events as law;
@@ -28,20 +28,20 @@ pub trait Decoder: Drop {
     // How many bytes of what was taken are part of no message.
     ghost skips: { Self → ℕ };
 
-    /// Takes the next bytes of the stream. `AllocError` leaves all as it was.
+    /// Takes the next bytes of the stream. `AllocError` leaves everything as it was.
     fn feed(&mut self, alloc: Global, piece: &[u8]) -> Result<(), AllocError>
         ensures ok { OnOk result (Feeds made piece.now self.old self.new) }
         ensures err { OnErr result (self.new ≡ self.old) }
         ensures source { source self.new ≡ source self.old };
 
-    /// Makes the next event, with this moment; none where no message stands whole in what was taken. `Malformed` where
-    /// none can follow, `NoMemory` where memory ran out: the same is made next time.
+    /// Makes the next event, with this moment; `None` if no message is whole yet. `Malformed` if none can follow; after
+    /// `NoMemory` the same event is made next time.
     fn make(&mut self, alloc: Global, at: u64) -> Result<Option<Event>, LinkFault>
         ensures makes { Makes made are_all to_make result self.old self.new }
         ensures moment { IfOk result (λ next. IfSome next (λ event. event_moment (event_seen event) ≡ at)) }
         ensures source { source self.new ≡ source self.old };
 
-    /// How many bytes of what was taken were skipped, since they are part of no message. Takes no memory.
+    /// How many bytes were skipped because they are part of no message. Takes no memory.
     fn skipped(&self) -> u64
         ensures { result ≡ skips self.now };
 }

@@ -1,5 +1,5 @@
-//! Engines of a link: readers that make events of what a stream brings, and a writer of what a link is told. Each
-//! goes on by steps, over any stream and any gate, and waits for nothing but these.
+//! Reader and writer of one link, without threads: bytes to events, output to bytes. Each goes on by steps, over any
+//! stream and any handle to the core (`Gate`), and waits for nothing but these.
 //!
 //! Source: FIX 4.4 Volume 1, "Message Format"; SoupBinTCP 3.00, "Logical Packets".
 #![tactic(auto)]

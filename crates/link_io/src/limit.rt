@@ -1,20 +1,20 @@
-//! How many steps a link's engine still makes, and the fault with which its link ended.
+//! How many steps an engine may still make, and the fault that ended its link.
 
 ghost use Rattle.std.specs.Prelude.{◌≡◌, ◌≤◌, ◌-◌, None, is_some};
 ghost use Rattle.link_io.specs.Limits.{Begins, end_by, refusal};
 
 use crate::link_fault::LinkFault;
 
-/// How many steps a link's engine still makes, and the fault with which its link ended.
+/// How many steps an engine may still make, and the fault that ended its link.
 #[derive(Clone, Copy)]
 pub struct Limit {
-    /// How many steps are still made before the one that answers that they are used up.
+    /// How many steps remain before the one that answers `StepLimit`.
     left: u64,
     over: Option<LinkFault>,
 }
 
 impl Limit {
-    /// Of so many steps, of which the last one answers that they are used up.
+    /// For this many steps, the last of which answers `StepLimit`.
     pub(crate) fn new(steps: u64) -> Limit
         requires from_one { 1 ≤ steps }
         ensures left { result.left ≡ steps - 1 }
@@ -26,7 +26,7 @@ impl Limit {
         }
     }
 
-    /// Counts a step. The fault with which the link ended, or that the steps are used up.
+    /// Counts a step. The fault that ended the link, or `StepLimit`.
     pub(crate) fn begin(&mut self) -> Result<(), LinkFault>
         ensures { Begins result self.old self.new }
     {
@@ -41,14 +41,14 @@ impl Limit {
         Ok(())
     }
 
-    /// Whether no step is made any more.
+    /// Whether no further step is made.
     pub(crate) fn is_over(&self) -> bool
         ensures { result ≡ is_some (refusal self.now) }
     {
         self.over.is_some() || self.left == 0
     }
 
-    /// The step failed: the link is over, unless memory ran out.
+    /// Notes that the step failed: the link is over, unless memory ran out.
     pub(crate) fn fail(&mut self, fault: LinkFault)
         requires { self.old.over ≡ None }
         ensures left { self.new.left ≡ self.old.left }

@@ -10,19 +10,19 @@ use thiserror::Error;
 /// Why a step of a link's engine failed. After the first four the link is over: each later step answers the same.
 #[derive(Clone, Copy, Debug, PartialEq, Eq, Drop, Error)]
 pub enum LinkFault {
-    /// 1: the stream failed to be read.
+    /// 1: a read failed.
     #[error("read failed")]
     ReadFailed,
-    /// 2: the stream failed to be written, or took no byte of some.
+    /// 2: a write failed, or took none of some bytes.
     #[error("write failed")]
     WriteFailed,
     /// 3: a head announces a frame of more than 8,192 bytes, or a packet has a length of 0.
     #[error("frame too long or empty packet")]
     Malformed,
-    /// 4: the steps of the link are used up.
+    /// 4: the link's steps are used up.
     #[error("limit of steps")]
     StepLimit,
-    /// 5: memory ran out. What was read or taken stays, and the next step goes on with it.
+    /// 5: memory ran out. What was read or taken is kept, and the next step goes on with it.
     #[error("out of memory")]
     NoMemory,
 }

@@ -11,7 +11,7 @@ use std::marker::Model;
 /// The most bytes of one read.
 const MOST_BYTES: usize = 4_096;
 
-/// The bytes of one read, as long as nothing was made of them. Contracts see these.
+/// The bytes of one read, until the decoder has taken them. Contracts see these.
 #[derive(Drop)]
 pub struct Piece {
     bytes: [u8; MOST_BYTES],
@@ -39,7 +39,7 @@ impl Piece {
         }
     }
 
-    /// Reads once, and gives how many bytes came: none where the stream is at its end.
+    /// Reads once, and gives how many bytes came: 0 at the stream's end.
     pub(crate) fn fill<R: Source>(&mut self, stream: &mut R) -> Result<usize, LinkFault>
         ensures fills { Fills result self.new (R.remaining stream.old) (R.remaining stream.new) }
         ensures answered { FillsBy R.did_read result stream.old stream.new }
@@ -62,7 +62,7 @@ impl Piece {
         read
     }
 
-    /// Lets the bytes go.
+    /// Drops the bytes.
     pub(crate) fn clear(&mut self)
         ensures { self.new ≡ [] }
     {

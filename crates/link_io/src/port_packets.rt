@@ -1,4 +1,4 @@
-//! The packets of a port's link, as events.
+//! From a port's bytes to its events: each packet becomes a `PortPacket`.
 
 ghost use Rattle.std.specs.Prelude.{◌≡◌, []};
 ghost use Rattle.soup_packets.specs.Stream.{Fed};
@@ -11,7 +11,7 @@ use soup_packets::{Packet, Packets};
 use std::alloc::{AllocError, Global};
 use std::marker::Model;
 
-/// Makes a port's packets of what its link brings. Contracts see the reader of the stream.
+/// Makes a port's events of the bytes of its link, one for each packet. Contracts see the stream's reader.
 ///
 /// Source: SoupBinTCP 3.00, "Logical Packets".
 #[derive(Drop)]
@@ -30,7 +30,7 @@ impl Model for PortPackets {
 }
 
 impl PortPackets {
-    /// Of a link of which nothing has come. Takes no memory.
+    /// For a link of which no byte has come. Takes no memory.
     pub(crate) fn new(alloc: Global, port: PortNumber, link: u64) -> PortPackets
         ensures port { result.port ≡ port }
         ensures link { result.link ≡ link }
@@ -74,13 +74,13 @@ impl Decoder for PortPackets {
         }))
     }
 
-    /// None: each byte is part of a packet.
+    /// 0: each byte is part of a packet.
     fn skipped(&self) -> u64 {
         0
     }
 }
 
-/// The next packet, out of the reader: one copy.
+/// Copies the next packet out of the reader.
 fn next_packet(packets: &mut Packets, alloc: Global) -> Result<Option<Packet>, LinkFault>
     ensures { NextPacket result packets.old packets.new }
 {

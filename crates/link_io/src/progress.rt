@@ -3,10 +3,10 @@
 /// What a step of a reader did.
 #[derive(Clone, Copy, Debug, PartialEq, Eq)]
 pub enum Progress {
-    /// So many bytes were read, 1 or more, and all events of the stream so far are put.
+    /// This many bytes were read, 1 or more, and all events of the stream so far are put.
     Read(usize),
     /// The stream is at its end, and all its events are put.
     Ended,
-    /// An event was given back. It is put first next time.
+    /// An event was given back. It is put first in the next step.
     Held,
 }

@@ -1,4 +1,4 @@
-//! The reader of a link.
+//! The reader of a link: reads its stream and puts the events that the bytes make.
 
 ghost use Rattle.std.specs.Prelude.{◌≡◌, ◌≤◌, ◌-◌, None, Some, Err, true, false, [], ◌++◌, OnOk, OnErr, IfOk};
 ghost use Rattle.link_io.specs.Limits.{refusal, limit_after};
@@ -20,10 +20,10 @@ use gate_events::{ClientNumber, Event, PortNumber};
 use std::alloc::{AllocError, Global};
 use std::marker::Model;
 
-/// Reads a link's stream, and puts the events that its decoder makes of it.
+/// Reads a link's stream, and puts the events that its decoder makes of the bytes.
 ///
-/// Contracts see the decoder, the bytes of the last read where nothing was made of them for want of memory, and an
-/// event that was given back.
+/// Contracts see the decoder, bytes that were read and not decoded because memory ran out, and an event that was given
+/// back.
 #[derive(Drop)]
 pub struct Reader<D> {
     decoder: D,
@@ -54,8 +54,7 @@ impl<D> Model for Reader<D> {
 }
 
 impl Reader<ClientFrames> {
-    /// The reader of a link of this client. At the step of number `steps`, 1 or more, they are used up. Takes no
-    /// memory.
+    /// The reader of a client's link. Its step number `steps`, 1 or more, answers `StepLimit`. Takes no memory.
     pub fn new(alloc: Global, client: ClientNumber, link: u64, steps: u64) -> ClientReader
         requires from_one { 1 ≤ steps }
         ensures begins { Gave MadeOfFrames [] [] result }
@@ -67,7 +66,7 @@ impl Reader<ClientFrames> {
 }
 
 impl Reader<PortPackets> {
-    /// The reader of a link of this port. At the step of number `steps`, 1 or more, they are used up. Takes no memory.
+    /// The reader of a port's link. Its step number `steps`, 1 or more, answers `StepLimit`. Takes no memory.
     pub fn new(alloc: Global, port: PortNumber, link: u64, steps: u64) -> PortReader
         requires from_one { 1 ≤ steps }
         ensures begins { Gave MadeOfPackets [] [] result }
@@ -79,7 +78,7 @@ impl Reader<PortPackets> {
 }
 
 impl<D: Decoder> Reader<D> {
-    /// The reader of a link, with what makes its events.
+    /// The reader of a link, over the decoder that makes its events.
     pub(crate) fn with(decoder: D, steps: u64) -> Reader<D>
         requires from_one { 1 ≤ steps }
         ensures { result ≡ record {
@@ -97,11 +96,11 @@ impl<D: Decoder> Reader<D> {
         }
     }
 
-    /// Puts what was given back or not yet made of what was read, then reads once, at most 4,096 bytes, and puts the
-    /// events that stand whole in the stream then, with this moment: milliseconds since 1970.
+    /// Puts what was given back and what is still to be made of earlier bytes; then reads once, at most 4,096 bytes,
+    /// and puts an event for each message that is whole now, with this moment (milliseconds since 1970).
     ///
-    /// `ReadFailed` where the read failed, `Malformed` where too long a frame or an empty packet follows: the events
-    /// before it are put. `StepLimit` at the last step, without a read. After `NoMemory` what was read stays, and the
+    /// `ReadFailed` if the read failed; `Malformed` if too long a frame or an empty packet follows: the events before
+    /// it are put. `StepLimit` at the last step, which reads nothing. After `NoMemory` what was read is kept, and the
     /// next step goes on with it. After any other fault each step answers the same and does nothing.
     pub fn step<R: Source, G: Gate>(
         &mut self,
@@ -129,15 +128,14 @@ impl<D: Decoder> Reader<D> {
         }
     }
 
-    /// How many bytes of what was read were skipped, since they are part of no message: of a port's link none. Takes no
-    /// memory.
+    /// How many bytes were skipped because they are part of no message; on a port's link none are. Takes no memory.
     pub fn skipped(&self) -> u64
         ensures { result ≡ D.skips self.now.decoder }
     {
         self.decoder.skipped()
     }
 
-    /// The same, of a link that goes on.
+    /// A step of a link that isn't over.
     fn read_on<R: Source, G: Gate>(
         &mut self,
         alloc: Global,
@@ -165,7 +163,7 @@ impl<D: Decoder> Reader<D> {
         Ok(Progress::Read(count))
     }
 
-    /// Puts what was given back and what can be made of what was read: whether all was taken.
+    /// Puts what was given back and what can be made of what was read. Whether all was put.
     fn put_all<G: Gate>(&mut self, alloc: Global, gate: &mut G, at: u64) -> Result<bool, LinkFault>
         ensures puts { Puts D.made D.are_all at result self.old self.new (G.was_put gate.old) (G.was_put gate.new) }
         ensures limit { self.new.limit ≡ self.old.limit }
@@ -184,7 +182,7 @@ impl<D: Decoder> Reader<D> {
         Ok(true)
     }
 
-    /// Puts what was given back, where something was: whether nothing is left to be put.
+    /// Puts the event that was given back, if there is one. Whether it is gone.
     fn offer<G: Gate>(&mut self, gate: &mut G) -> bool
         ensures offers { Offers result self.old self.new (G.was_put gate.old) (G.was_put gate.new) }
         ensures none_taken { G.was_taken gate.new ≡ G.was_taken gate.old }
@@ -201,7 +199,7 @@ impl<D: Decoder> Reader<D> {
         }
     }
 
-    /// The decoder takes what was read. Where memory runs out it stays.
+    /// Hands the decoder what was read. If memory runs out it is kept.
     fn feed(&mut self, alloc: Global) -> Result<(), AllocError>
         ensures ok { OnOk result (FeedsPiece D.made self.old self.new) }
         ensures err { OnErr result (self.new ≡ self.old) }
@@ -213,7 +211,7 @@ impl<D: Decoder> Reader<D> {
         Ok(())
     }
 
-    /// Makes the next event, to be put: whether there is one.
+    /// Makes the next event. Whether there is one.
     fn make(&mut self, alloc: Global, at: u64) -> Result<bool, LinkFault>
         requires put { self.old.offered ≡ None }
         requires fed { self.old.piece ≡ [] }

@@ -1,4 +1,4 @@
-//! What the gate of a writer is told of what went out.
+//! Which written frames the core's handle is to hear of, so that they are logged.
 
 use crate::gate::Gate;
 use fix_framing::SOH;
@@ -11,11 +11,11 @@ const FRONT_SIZE: usize = 13;
 /// How many digits BodyLength has at most where a MsgType is looked for behind it: those of 8,192.
 const MOST_DIGITS: usize = 4;
 
-/// Whether a Reject, a ResendRequest or a Logout is among what a writer has joined since the gate was told last.
+/// Whether a Reject, a ResendRequest or a Logout is among what was joined since the last report.
 #[derive(Drop)]
 pub(crate) struct SentNotes {
     is_noted: bool,
-    /// How many bytes in front of what is to be written are the rest of a write that the gate was told of.
+    /// How many of the first bytes to be written are the rest of a write that was reported.
     left: usize,
 }
 
@@ -28,15 +28,14 @@ impl SentNotes {
         }
     }
 
-    /// Notes what is joined, where it is such a frame of this link.
+    /// Notes what is joined, if it is such a frame of this link.
     pub(crate) fn look(&mut self, link: u64, out: &LinkOut) {
         if is_noted(link, out) {
             self.is_noted = true;
         }
     }
 
-    /// Tells the gate of what the stream has begun to take, if such a frame is among what it wasn't told of before. So
-    /// many bytes of it the stream hasn't taken yet.
+    /// Reports what the stream has begun to take, if such a frame is among it; `left` of the bytes aren't taken yet.
     pub(crate) fn tell<G: Gate>(&mut self, gate: &G, bytes: &[u8], left: usize) {
         if self.is_noted {
             let (_, fresh) = bytes.split_at(self.left.min(bytes.len()));

@@ -1,17 +1,17 @@
-//! The streams that links are read from and written onto, and what their calls answered.
+//! The streams that links are read from and written to, and what their calls answered.
 
 use std::io::{self, Read, Write};
 
-/// A stream that bytes are read from, and what its reads answered. Every `Read` is one.
+/// A stream to read from, and what its reads answered. Every `Read` is one.
 ///
-/// `Read` has no word for a read that failed. Contracts say it by `did_read`, which nothing gives but a call: an engine
-/// is proved for any `Source`, so it can tell of no read that was not made, and of none another answer.
+/// `Read` has no word for a read that failed. Contracts say it by `did_read`, which only a call gives: an engine is
+/// proved for any `Source`, so it can't report a read that wasn't made, nor another answer.
 pub trait Source: Read {
     ghost use Rattle.std.specs.Prelude.{ℕ, Option, Some, None, IfOk, OnErr};
     ghost use Rattle.std.specs.Io.{ReadsAtMost};
     ghost use Rattle.std.specs.Io.KnownBytes.{ReadConsumes};
 
-    // A read of the first gave so many bytes, or failed where no number is said, and left the second.
+    // A read of the first gave this many bytes, or failed if there is no number, and left the second.
     ghost did_read: { Self → Option ℕ → Self → Type 0 };
 
     /// Reads once: what `read` does.
@@ -30,14 +30,13 @@ impl<R: Read> Source for R {
     }
 }
 
-/// A stream that bytes are written onto, and what its writes answered. Every `Write` is one. Contracts say it by
-/// `did_write`, as they do of a `Source`.
+/// A stream to write to, and what its writes answered, by `did_write`. Every `Write` is one.
 pub trait Sink: Write {
     ghost use Rattle.std.specs.Prelude.{ℕ, List, Option, Some, None, IfOk, OnErr};
     ghost use Rattle.std.specs.Io.{WritesAtMost};
     ghost use Rattle.std.specs.Io.KnownBytes.{WriteAppends};
 
-    // A write of these bytes onto the first took so many, or failed where no number is said, and left the second.
+    // A write of these bytes to the first took this many, or failed if there is no number, and left the second.
     ghost did_write: { Self → List ℕ → Option ℕ → Self → Type 0 };
 
     /// Writes once: what `write` does.
@@ -56,19 +55,19 @@ impl<W: Write> Sink for W {
     }
 }
 
-/// A stream that can also be written promptly, by writes that don't wait for a peer that reads nothing now. What such a
-/// write answered contracts say by `did_try`, which nothing gives but a call.
+/// A stream that can also be written promptly, by writes that don't wait for a peer that doesn't read. What such a
+/// write answered contracts say by `did_try`.
 pub trait Prompt: Write {
     ghost use Rattle.std.specs.Prelude.{ℕ, List, Option, Some, None, IfOk, OnErr};
     ghost use Rattle.std.specs.Io.{WritesAtMost};
     ghost use Rattle.std.specs.Io.KnownBytes.{WriteAppends};
 
-    // A prompt write of these bytes onto the first took so many, or failed where no number is said, and left the
+    // A prompt write of these bytes to the first took this many, or failed if there is no number, and left the
     // second.
     ghost did_try: { Self → List ℕ → Option ℕ → Self → Type 0 };
 
-    /// Writes once, as `write` does, and comes back soon: it fails where the peer takes nothing for a moment. After a
-    /// failure the stream is as before: `write` meets the failure again, where it is one that lasts.
+    /// Writes once, as `write` does, and returns soon: it fails if the peer takes nothing for a moment. After a failure
+    /// the stream is as before: `write` meets the failure again if it lasts.
     fn write_promptly(&mut self, buf: &[u8]) -> io::Result<usize>
         ensures bound { WritesAtMost result buf.now }
         ensures bytes { WriteAppends (Self.contents self.old) (Self.contents self.new) result buf.now }

@@ -1,4 +1,4 @@
-//! The writer of a link.
+//! The writer of a link: takes lists of output and writes what they have for the link.
 
 ghost use Rattle.std.specs.Prelude.{◌≡◌, ◌≤◌, ◌+◌, ◌-◌, ◌++◌, ◌∷◌, ◌||◌, not, nat_lt, ℕ, List, [], None, Err, length};
 ghost use Rattle.std.specs.Prelude.{true, false, IfOk, IfErr, OnOk, OnErr, MatchResult};
@@ -19,10 +19,10 @@ use short_list::ShortList;
 use std::alloc::{AllocError, Global};
 use std::marker::Model;
 
-/// The most lists that are taken before they are written.
+/// The most lists that are joined before they are written.
 const MOST_LISTS: u32 = 64;
 
-/// So many bytes are enough to be written: behind them no further list is taken.
+/// With this many bytes to be written no further list is taken.
 const ENOUGH_BYTES: usize = 16_384;
 
 /// What a step of a writer did.
@@ -30,22 +30,22 @@ const ENOUGH_BYTES: usize = 16_384;
 pub struct Wrote {
     /// How many bytes went out.
     pub bytes: u64,
-    /// Whether a list was taken, in this step or in those before it that failed for want of memory.
+    /// Whether a list was taken, in this step or in earlier ones that ran out of memory.
     pub taken: bool,
-    /// Whether this link's `Close` stood in one of these lists.
+    /// Whether this link's `Close` was in one of these lists.
     pub closed: bool,
 }
 
-/// Writes what a link is told onto its stream. What other links are told it passes over.
+/// Writes a link's output onto its stream, and ignores that of other links.
 ///
-/// Contracts see the bytes that were taken and not yet written, and what is still to be told of the lists taken.
+/// Contracts see the bytes that were taken and not yet written, and what is still to be reported of the lists taken.
 pub struct BatchWriter {
     number: u16,
     link: u64,
     /// A list that was taken, and how much of it is joined.
     held: ShortList<LinkOut>,
     joined: usize,
-    /// What is to be written, but for the rest of the list.
+    /// What is to be written, without the rest of that list.
     pending: Vec<u8>,
     is_taken: bool,
     is_closing: bool,
@@ -91,8 +91,8 @@ impl Model for BatchWriter {
 }
 
 impl BatchWriter {
-    /// The writer of a link of the client or port of this number. At the step of number `steps`, 1 or more, they are
-    /// used up. Takes no memory.
+    /// The writer of a link of the client or port of this number. Its step number `steps`, 1 or more, answers
+    /// `StepLimit`. Takes no memory.
     pub fn new(alloc: Global, number: u16, link: u64, steps: u64) -> BatchWriter
         requires from_one { 1 ≤ steps }
         ensures { result ≡ record {
@@ -125,12 +125,12 @@ impl BatchWriter {
         self.number
     }
 
-    /// Takes the lists that lie there, and writes what they tell this link. Up to 64 are taken, none behind 16,384
+    /// Takes the lists that are queued, and writes what they have for this link. Up to 64 are taken, none behind 16,384
     /// bytes or behind one that closes this link.
     ///
-    /// `WriteFailed` where a write fails or takes no byte: of what was to be written the first bytes went out.
-    /// `StepLimit` at the last step, without a write. After `NoMemory` nothing was written in the step: what was taken
-    /// is kept, and the next step goes on with it. After any other fault each step answers the same and does nothing.
+    /// `WriteFailed` if a write fails or takes no byte: of what was to be written the first bytes went out. `StepLimit`
+    /// at the last step, which writes nothing. After `NoMemory` nothing was written in the step: what was taken is
+    /// kept, and the next step goes on with it. After any other fault each step answers the same and does nothing.
     pub fn step<W: Sink, G: Gate>(
         &mut self,
         alloc: Global,
@@ -156,12 +156,12 @@ impl BatchWriter {
         }
     }
 
-    /// Takes the lists that lie there, as a step does, and writes what they tell this link by one prompt write. Whether
-    /// that was all: nothing lay behind these lists, the stream took each byte, and none of them closes this link.
+    /// Takes queued lists as a step does, and writes what they have for this link by one prompt write. `true` if that
+    /// was all: no list was left, the stream took each byte, and none of the lists closes this link.
     ///
     /// Else the rest is left to the next step: what the stream didn't take, the stream's failure, which it meets again,
-    /// what was taken where memory ran out, and the end of a link that is closed. It counts as none of the steps, and
-    /// nothing is done where these are used up or the link is over.
+    /// what was taken when memory ran out, and the end of a link that is closed. It isn't counted as a step, and does
+    /// nothing if these are used up or the link is over.
     pub fn step_once<W: Prompt, G: Gate>(
         &mut self,
         alloc: Global,
@@ -183,7 +183,7 @@ impl BatchWriter {
         self.try_lists(alloc, stream, gate)
     }
 
-    /// The same, of a link that goes on.
+    /// A prompt step of a link that isn't over.
     fn try_lists<W: Prompt, G: Gate>(&mut self, alloc: Global, stream: &mut W, gate: &mut G) -> bool
         ensures writes { WritesOnce self.old self.new
             (G.was_taken gate.old) (G.was_taken gate.new) (W.contents stream.old) (W.contents stream.new) }
@@ -199,8 +199,8 @@ impl BatchWriter {
         is_written && !is_more && !self.is_closing
     }
 
-    /// Writes what is pending by one prompt write, where there is something. What the stream took goes: whether that
-    /// was all. The gate is told of what the stream began to take.
+    /// Writes what is pending by one prompt write, and drops what the stream took. Whether that was all. Reports the
+    /// frames that went out.
     fn try_pending<W: Prompt, G: Gate>(&mut self, stream: &mut W, gate: &G) -> bool
         ensures sent { HasSent self.old.bytes self.new.bytes (W.contents stream.old) (W.contents stream.new) }
         ensures left { self.new ≡ record self.old { bytes = self.new.bytes } }
@@ -225,7 +225,7 @@ impl BatchWriter {
         }
     }
 
-    /// Tells the gate of what the stream has begun to take, of which it took so many bytes.
+    /// Reports what the stream has begun to take; it took this many bytes.
     fn tell_part<G: Gate>(&mut self, gate: &G, count: usize)
         requires { count ≤ length self.old.bytes }
         ensures { self.new ≡ self.old }
@@ -236,7 +236,7 @@ impl BatchWriter {
         }
     }
 
-    /// The same, of a link that goes on.
+    /// A step of a link that isn't over.
     fn write_lists<W: Sink, G: Gate>(
         &mut self,
         alloc: Global,
@@ -255,7 +255,7 @@ impl BatchWriter {
         Ok(self.told())
     }
 
-    /// What is to be told of a step that wrote all.
+    /// What is reported of a step that wrote everything.
     fn told(&mut self) -> Wrote
         requires { self.old.held ≡ [] }
         ensures wrote { result ≡ record {
@@ -276,7 +276,7 @@ impl BatchWriter {
         wrote
     }
 
-    /// Takes lists, and joins what they tell this link. Whether more may lie there.
+    /// Takes lists, and joins what they have for this link. Whether more may be queued.
     fn refill<G: Gate>(&mut self, alloc: Global, gate: &mut G) -> Result<bool, AllocError>
         ensures refills { Refills self.old self.new (G.was_taken gate.old) (G.was_taken gate.new) }
         ensures joined { OnOk result (self.new.held ≡ []) }
@@ -295,14 +295,14 @@ impl BatchWriter {
         Ok(true)
     }
 
-    /// Whether no further list is to be taken before what there is is written.
+    /// Whether what there is is written before a further list is taken.
     fn has_enough(&self) -> bool
         ensures { self.now.is_closing ≡ true → result ≡ true }
     {
         self.is_closing || self.pending.len() >= ENOUGH_BYTES
     }
 
-    /// Takes a list, where there is one.
+    /// Takes a list, if there is one.
     fn take_list<G: Gate>(&mut self, gate: &mut G) -> bool
         requires { self.old.held ≡ [] }
         ensures takes { TakesList result self.old self.new (G.was_taken gate.old) (G.was_taken gate.new) }
@@ -318,7 +318,7 @@ impl BatchWriter {
         true
     }
 
-    /// Joins what is left of the list that is held. Where memory runs out the rest stays.
+    /// Joins the rest of the list that was taken. If memory runs out the rest is kept.
     fn join(&mut self, alloc: Global) -> Result<(), AllocError>
         ensures joins { Joins self.old self.new }
         ensures joined { OnOk result (self.new.held ≡ []) }
@@ -327,7 +327,7 @@ impl BatchWriter {
         Ok(())
     }
 
-    /// Joins what is next in the list that is held, where there is something. One growth.
+    /// Joins the next item of that list, if there is one. One growth.
     fn join_next(&mut self, _alloc: Global) -> Result<bool, AllocError>
         ensures joins { Joins self.old self.new }
         ensures none { IfOk result (λ more. more ≡ false → self.new.held ≡ []) }
@@ -343,7 +343,7 @@ impl BatchWriter {
     }
 }
 
-/// Appends what a link is told to be written, where it is this link.
+/// Appends an item's bytes if it is for this link.
 fn append_told(bytes: &mut Vec<u8>, link: u64, out: &LinkOut) -> Result<(), AllocError>
     ensures ok { OnOk result (bytes.new.items ≡ bytes.old.items ++ bytes_told link (link_out_seen out.now)) }
     ensures err { OnErr result (bytes.new.items ≡ bytes.old.items) }
@@ -362,7 +362,7 @@ fn append_told(bytes: &mut Vec<u8>, link: u64, out: &LinkOut) -> Result<(), Allo
     }
 }
 
-/// Writes all of these bytes. A write that takes none of some failed.
+/// Writes all of these bytes. A write that takes none of some has failed.
 fn write_out<W: Sink>(stream: &mut W, bytes: &[u8]) -> Result<(), LinkFault>
     ensures sends { Sends result bytes.now (W.contents stream.old) (W.contents stream.new) }
     ensures failed { OnErr result (FailedWrite W.did_write stream.new) }

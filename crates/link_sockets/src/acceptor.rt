@@ -1,4 +1,4 @@
-//! A client's line: links that the client opens.
+//! Opens a client's links: accepts its connections, one after the other.
 
 ghost use Rattle.std.specs.Prelude.{◌≡◌, ◌<◌, ◌+◌, ◌^◌};
 
@@ -12,12 +12,13 @@ use std::os::fd::OwnedFd;
 use std::sync::atomic::{AtomicBool, Ordering};
 use std::time::{Clock, Duration};
 
-/// How long an accept waits before it looks whether its line has ended.
+/// How long an accept blocks before it checks whether the line has ended.
 fn longest_accept() -> Duration {
     Duration::from_millis(250)
 }
 
-/// Accepts so many links at an address, one after the other. While one is open, the next peer waits.
+/// Accepts a number of links at an address, one after the other. While one is open, the next peer waits in the system's
+/// queue.
 #[derive(Drop)]
 pub struct Acceptor<'a, R> {
     rt: &'a R,
@@ -30,7 +31,7 @@ pub struct Acceptor<'a, R> {
 }
 
 impl<'a, R> Acceptor<'a, R> {
-    /// Of so many links at this address, until `is_over` is set. Binds at the first of them. Takes no memory.
+    /// For this many links at an address, until `is_over` is set. Binds at the first of them. Takes no memory.
     pub fn new(
         rt: &'a R,
         address: &'a str,
@@ -47,7 +48,7 @@ impl<'a, R> Acceptor<'a, R> {
         }
     }
 
-    /// Of so many links of a listener that is bound already, until `is_over` is set. Takes no memory.
+    /// The same over a listener that is bound already. Takes no memory.
     pub fn of_listener(
         rt: &'a R,
         listener: TcpListener,
@@ -66,7 +67,7 @@ impl<'a, R> Acceptor<'a, R> {
     }
 }
 
-/// Binds an address; accepts there come back after a while where no peer has come.
+/// Binds an address. An accept there returns after a while if no peer has come.
 fn bound<R: Net<Listener = TcpListener, Stream = TcpStream>>(
     rt: &R,
     address: &str,
@@ -76,13 +77,13 @@ fn bound<R: Net<Listener = TcpListener, Stream = TcpStream>>(
     Ok(listener)
 }
 
-/// Has accepts of a listener come back after a while where no peer has come.
+/// Makes accepts of a listener return after a while if no peer has come.
 fn is_timed(listener: &TcpListener) -> io::Result<()> {
     let options = TcpStream::from(OwnedFd::from(listener.try_clone()?));
     options.set_read_timeout(Some(longest_accept()))
 }
 
-/// The next peer's stream; `None` where the line ends before one comes.
+/// The next peer's stream; `None` if the line ends before one comes.
 fn accepted(listener: &TcpListener, is_over: &AtomicBool) -> io::Result<Option<TcpStream>> {
     for _ in 0..u64::MAX {
         if is_over.load(Ordering::SeqCst) {
@@ -100,7 +101,7 @@ fn accepted(listener: &TcpListener, is_over: &AtomicBool) -> io::Result<Option<T
 }
 
 impl<'a, R: Net<Listener = TcpListener, Stream = TcpStream> + Clock> Acceptor<'a, R> {
-    /// The next link's stream; `None` where the line has ended.
+    /// The next link's stream; `None` if the line has ended.
     fn next_stream(&mut self) -> io::Result<Option<TcpStream>>
         ensures same { (self.new.opened ≡ self.old.opened) × (self.new.left ≡ self.old.left) }
     {

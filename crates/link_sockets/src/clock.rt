@@ -1,10 +1,10 @@
-//! The clock of a worker: the system's, and a pause.
+//! The clock of a worker: the system's time, and a pause.
 
 use gate_serving::Clock;
 use std::thread;
 use std::time::{self, Duration};
 
-/// Tells the system's time, and sleeps for a pause of so long.
+/// The system's time, and a sleep of a fixed length.
 #[derive(Drop)]
 pub struct SystemClock<'a, R> {
     rt: &'a R,
@@ -13,14 +13,14 @@ pub struct SystemClock<'a, R> {
 }
 
 impl<'a, R: time::Clock> SystemClock<'a, R> {
-    /// A clock whose pauses last so long. Takes no memory.
+    /// A clock whose pauses last this long. Takes no memory.
     pub fn new(rt: &'a R, pause: Duration) -> SystemClock<'a, R> {
         SystemClock { rt, last: 0, pause }
     }
 }
 
 impl<'a, R: time::Clock> Clock for SystemClock<'a, R> {
-    /// The system's moment, or the last one told where the system's is before it or can't be had.
+    /// The system's moment; the last one given if the system's is earlier or can't be read.
     fn now_ms(&mut self) -> u64 {
         if let Ok(since) = self.rt.since_1970() {
             let now = u64::try_from(since.as_millis()).unwrap_or(u64::MAX);

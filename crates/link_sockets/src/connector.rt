@@ -1,4 +1,4 @@
-//! A port's line: links that are opened to the market.
+//! Opens a port's links: connects to the market.
 
 ghost use Rattle.std.specs.Prelude.{◌≡◌, ◌<◌, ◌+◌, ◌^◌};
 
@@ -16,8 +16,8 @@ fn longest_connect() -> Duration {
     Duration::from_secs(10)
 }
 
-/// Connects to an address up to so many times, again a second after a link has ended or couldn't be opened. Connecting
-/// in vain is none of these times.
+/// Connects to an address a number of times, again a second after a link has ended or couldn't be opened. A connect
+/// that fails isn't counted.
 #[derive(Drop)]
 pub struct Connector<'a, R> {
     rt: &'a R,
@@ -30,7 +30,7 @@ pub struct Connector<'a, R> {
 }
 
 impl<'a, R> Connector<'a, R> {
-    /// Of so many links to this address, until `is_over` is set. Takes no memory.
+    /// For this many links to an address, until `is_over` is set. Takes no memory.
     pub fn new(
         rt: &'a R,
         address: &'a str,

@@ -1,6 +1,6 @@
-//! Links over TCP: an acceptor for a client's line, a connector for a port's, and the clocks of their workers.
+//! Links over TCP: an acceptor for a client's links, a connector for a port's, and the clocks of their threads.
 //!
-//! What a socket does no contract says; the tests of `link_tests` do.
+//! No contract says what a socket does; the tests of `link_tests` show it.
 #![tactic(auto)]
 
 mod acceptor;

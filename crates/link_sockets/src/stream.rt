@@ -1,4 +1,4 @@
-//! A link's stream, by what is done with it.
+//! The two directions of a link's stream, and its closing.
 
 use gate_serving::{Closer, Opened, Prompt};
 use std::io::{ErrorKind, Read, Write};
@@ -7,18 +7,18 @@ use std::sync::atomic::{AtomicBool, Ordering};
 use std::time::{Clock, Duration};
 use std::{io, thread};
 
-/// How long a read waits before it looks whether its line has ended.
+/// How long a read blocks before it checks whether the line has ended.
 fn longest_read() -> Duration {
     Duration::from_millis(250)
 }
 
-/// How long a prompt write waits for a peer that doesn't read. Then it ends, with the bytes that went out, and fails
-/// where none did.
+/// How long a prompt write waits for a peer that doesn't read. Then it ends with the bytes that went out, and fails if
+/// none did.
 fn longest_prompt_write() -> Duration {
     Duration::from_millis(10)
 }
 
-/// How often a write is tried, promptly each time, before it fails: for five seconds.
+/// How many prompt writes a write makes before it fails: five seconds of them.
 const MOST_TRIES: u32 = 500;
 
 /// How often, and how long each time, a closer looks whether the peer has closed too.
@@ -28,7 +28,7 @@ fn look() -> Duration {
     Duration::from_millis(10)
 }
 
-/// Reads a stream until its peer has said all, or the line has ended: then it is at its end.
+/// Reads a stream until its peer has closed it or the line has ended; both are the stream's end.
 #[derive(Drop)]
 pub struct SocketReader<'a> {
     stream: TcpStream,
@@ -53,8 +53,8 @@ impl<'a> Read for SocketReader<'a> {
     }
 }
 
-/// Writes a stream. A write fails where the peer reads nothing for five seconds, a prompt one where it reads nothing
-/// for ten milliseconds.
+/// Writes a stream. A write fails if the peer reads nothing for five seconds, a prompt one if it reads nothing for ten
+/// milliseconds.
 #[derive(Drop)]
 pub struct SocketWriter {
     stream: TcpStream,
@@ -108,8 +108,8 @@ impl<'a, R: Clock> Closer for SocketCloser<'a, R> {
     }
 }
 
-/// A stream as a link: what is written goes out at once (TCP_NODELAY). Its reader is at its end once `is_over` is set.
-/// Takes no memory.
+/// A link over this stream: what is written goes out at once (TCP_NODELAY). Its reader is at its end once `is_over` is
+/// set. Takes no memory.
 pub fn link_of<'a, R>(
     rt: &'a R,
     stream: TcpStream,

@@ -1,10 +1,10 @@
-//! How often a line is opened again, and after how long.
+//! The pause before a line is opened again.
 
 use std::sync::atomic::{AtomicBool, Ordering};
 use std::thread;
 use std::time::{Clock, Duration};
 
-/// How often a pause of a second looks whether the line has ended.
+/// How many times a pause of a second checks whether the line has ended.
 const LOOKS: u32 = 100;
 
 fn look() -> Duration {

@@ -215,8 +215,8 @@ impl BookedOrder {
         mark(&mut self.trades, match_number);
     }
 
-    /// It goes by the request's new token from now on, with so many shares open, or dead, and its next trade is its first
-    /// one again. `AllocError` leaves it as it was.
+    /// It goes by the request's new token from now on, with so many shares open, or dead, and its next trade is its
+    /// first one again. `AllocError` leaves it as it was.
     pub fn replace(
         &mut self,
         request: &Replace,

@@ -480,7 +480,8 @@ of_a_minimum_of_a_replace = (refl, refl, refl)
 
 -- ---- runs
 
--- five replaces of one order with trades between, and the fourth rejected; 100 shares are less than the minimum of the third
+-- five replaces of one order with trades between, and the fourth rejected; 100 shares are less than the minimum of the
+-- third
 abbrev replaced_five_times : List Move
 replaced_five_times =
     entered

@@ -37,7 +37,7 @@ pub fn on_accepted(
     })
 }
 
-/// What its client is told, where it is lawful.
+/// The bodies for its client, if it is lawful.
 fn tell_accepted(
     alloc: Global,
     issued: u64,

@@ -41,7 +41,7 @@ pub fn on_broken(
     })
 }
 
-/// What its client is told, where this trade is the one that it takes back.
+/// The bodies for its client, if this trade is the one that it takes back.
 fn tell_broken(
     alloc: Global,
     issued: u64,

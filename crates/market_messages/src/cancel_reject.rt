@@ -31,7 +31,7 @@ pub fn on_cancel_reject(
     })
 }
 
-/// What its client is told, where it is lawful.
+/// The bodies for its client, if it is lawful.
 fn tell_cancel_reject(
     alloc: Global,
     order: &Order,

@@ -11,7 +11,7 @@ use ouch_codec::Canceled;
 use std::alloc::{AllocError, Global};
 use to_client::{Occasion, pending_of, push_canceled, push_report, report_of, shown_of};
 
-/// Lawful for an order in the book under this token, of shares that are open: so many are cancelled. Where nothing is
+/// Lawful for an order in the book under this token, of shares that are open: these are cancelled. Where nothing is
 /// left, the order is over, which answers a pending cancel, and a pending replace is too late; else its total is
 /// restated.
 ///
@@ -34,7 +34,7 @@ pub fn on_canceled(
     })
 }
 
-/// What its client is told, where it is lawful.
+/// The bodies for its client, if it is lawful.
 fn tell_canceled(
     alloc: Global,
     issued: u64,
@@ -63,7 +63,7 @@ fn tell_canceled(
     Ok(bodies)
 }
 
-/// Whether so many shares of an order may leave the book.
+/// Whether this many shares of an order may leave the book.
 fn may_cancel(order: &Order, message: &Canceled) -> bool
     ensures { result ≡ is_lawful (market.Canceled message.now) order.now }
 {

@@ -14,7 +14,7 @@ use std::alloc::{AllocError, Global};
 use to_client::{Occasion, pending_of, push_report, push_too_late, report_of, shown_of};
 
 /// Lawful for an order in the book under this token, of shares that are open, under a match number that none of its
-/// trades has: so many shares are executed at this price. Where nothing is left, the order is over, and each pending
+/// trades has: these shares are executed at this price. Where nothing is left, the order is over, and each pending
 /// request is too late.
 ///
 /// Source: OUCH 4.2, "Executed Order Message".
@@ -36,7 +36,7 @@ pub fn on_executed(
     })
 }
 
-/// What its client is told, where it is lawful.
+/// The bodies for its client, if it is lawful.
 fn tell_executed(
     alloc: Global,
     issued: u64,
@@ -79,7 +79,7 @@ fn told_trade(message: &Executed, number: u64) -> ToldTrade
     }
 }
 
-/// Whether so many shares of an order may be traded under this match number.
+/// Whether this many shares of an order may be traded under this match number.
 fn may_trade(order: &Order, message: &Executed) -> bool
     ensures { result ≡ is_lawful (market.Executed message.now) order.now }
 {

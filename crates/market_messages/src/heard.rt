@@ -1,4 +1,4 @@
-//! What comes of a message on an order.
+//! The result of a message on an order.
 
 ghost use Rattle.std.specs.Prelude.{◌≡◌, ◌≤◌, length};
 ghost use Rattle.market_messages.specs.declared.heard.RowFault.TheVariants.{NoMemory};
@@ -7,17 +7,17 @@ use orders::{AppBody, Change};
 use std::alloc::{AllocError, AllocFailed};
 use thiserror::Error;
 
-/// What comes of a message that is lawful of an order.
+/// The result of a message that is lawful of an order.
 #[derive(Drop)]
 pub struct Heard {
     /// What it changes of the order.
     pub change: Change,
-    /// What its client is told, in order: six bodies at most, or none.
+    /// The bodies for its client, in order: six at most, or none.
     pub bodies: Vec<AppBody>,
     ghost few: { length bodies.items ≤ 6 },
 }
 
-/// Why nothing comes of a message.
+/// Why a message isn't handled.
 #[derive(Clone, Copy, Debug, PartialEq, Eq, Drop, Error)]
 pub enum RowFault {
     #[error("out of memory")]

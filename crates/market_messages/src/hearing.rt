@@ -11,13 +11,12 @@ use ouch_codec::{DecodeRefusal, Outbound};
 use std::alloc::{AllocError, Global};
 use std::hash::BuildHasher;
 
-/// What a payload that a port's session gave comes to, by what it is decoded as, where so many reports were issued,
-/// of all clients.
+/// Judges a payload that a port's session delivered, by what it is decoded as; `issued` reports were issued so far, of
+/// all clients.
 ///
-/// The faults, the first that holds: `OutsideProfile` (the type of no message), `Undecodable` (another length than
-/// its type's, a field outside its set, or no byte at all), `UnknownToken` (no order of this port has it),
-/// `NotLawful` (it doesn't fit the order). A Priority Update and a System Event come to nothing. The one error is
-/// that memory ran out.
+/// The faults, the first that holds: `OutsideProfile` (the type of no message), `Undecodable` (another length than its
+/// type's, a field outside its set, or no byte at all), `UnknownToken` (no order of this port has it), `NotLawful` (it
+/// doesn't fit the order). A Priority Update and a System Event change nothing. The one error is that memory ran out.
 ///
 /// Source: OUCH 4.2, "Outbound Messages".
 pub fn hear<S: BuildHasher + Drop>(

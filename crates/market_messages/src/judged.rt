@@ -1,17 +1,17 @@
-//! What a payload of the market comes to.
+//! The result of a payload of the market.
 
 use crate::heard::Heard;
 use crate::market_fault::MarketFault;
 use orders::NextTokens;
 
-/// What a payload of the market comes to.
+/// The result of a payload of the market.
 #[derive(Drop)]
 pub enum Judged {
-    /// Nothing comes of it, and it is no fault.
+    /// It changes nothing, and is no fault.
     Silent,
     /// It may not be handled, and changes nothing.
     Faulty(MarketFault),
-    /// An order is changed, and its client is told of it where there are bodies.
+    /// An order is changed; its client gets these bodies, if any.
     Told {
         /// OrderID (37) of the order.
         order_id: u64,

@@ -1,9 +1,9 @@
-//! What a payload of the market makes of the table of orders: which order it is on, whether it is lawful of it, and
-//! what the order's client is told, by a row for each type of message; or the fault that it is.
+//! Payloads of the market, judged on the table of orders: which order one is on, whether it is lawful of it, and the
+//! bodies for the order's client, by a row for each type of message; or the fault that it is.
 //!
-//! A row knows one order and nothing of the others. Contracts say the law's own words: which messages are lawful of
-//! an order, what they tell, and the record that they leave. `hear` changes nothing: its caller puts the change where
-//! the order is, by `Table::apply`.
+//! A row knows one order and nothing of the others. Contracts say the law's own words: which messages are lawful of an
+//! order, what they tell, and the record that they leave. `hear` changes nothing: its caller puts the change where the
+//! order is, by `Table::apply`.
 //!
 //! Source: OUCH 4.2, "Outbound Messages"; FIX 4.4 Volume 4, "Execution Report" and "Order Cancel Reject".
 #![tactic(auto)]

@@ -23,7 +23,7 @@ use ouch_codec::Outbound;
 use std::alloc::{AllocError, Global};
 use std::hash::BuildHasher;
 
-/// What a message comes to: on the order that its token leads to, where it has one. The token that a Replaced gives the
+/// The result of a message: on the order that its token leads to, if it has one. The token that a Replaced gives the
 /// order has to be known, too.
 pub fn hear_message<S: BuildHasher + Drop>(
     alloc: Global,
@@ -61,7 +61,7 @@ fn is_new_token_known<S: BuildHasher + Drop>(
     }
 }
 
-/// What a message comes to on its order: a line for each row. A Cancel Pending may be said of any order and changes
+/// The result of a message on its order: a line for each row. A Cancel Pending may be said of any order and changes
 /// nothing of it; the other two are on none.
 fn hear_on_order(
     alloc: Global,
@@ -86,7 +86,7 @@ fn hear_on_order(
     }
 }
 
-/// What a row's answer on an order comes to.
+/// The result of a row's answer on an order.
 fn answer_of(order: &Order, answer: Result<Heard, RowFault>) -> Result<Judged, AllocError>
     ensures { (issued : ℕ) (b : Outbound) → MeetsRow issued b order.now answer
         → IfOk result (IsJudgedOf issued b order.now) }
@@ -102,7 +102,7 @@ fn answer_of(order: &Order, answer: Result<Heard, RowFault>) -> Result<Judged, A
     }
 }
 
-/// What a row's refusal comes to.
+/// The result of a row's refusal.
 fn refusal_of(fault: RowFault) -> Result<Judged, AllocError>
     ensures { (issued : ℕ) (b : Outbound) (o : OrderRecord) → MeetsRow issued b o (Err fault)
         → IfOk result (IsJudgedOf issued b o) }

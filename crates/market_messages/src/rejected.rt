@@ -43,7 +43,7 @@ pub fn on_rejected(
     Err(RowFault::NotLawful)
 }
 
-/// What its client is told of a new order.
+/// The bodies for its client, of a new order.
 fn tell_refused(
     alloc: Global,
     issued: u64,
@@ -66,7 +66,7 @@ fn tell_refused(
     Ok(bodies)
 }
 
-/// What its client is told of its pending replaces.
+/// The bodies for its client, of its pending replaces.
 fn tell_not_replaced(
     alloc: Global,
     order: &Order,

@@ -49,7 +49,7 @@ pub fn on_replaced(
     })
 }
 
-/// What its client is told, where it is lawful.
+/// The bodies for its client, if it is lawful.
 fn tell_replaced(
     alloc: Global,
     issued: u64,

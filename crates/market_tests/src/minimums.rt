@@ -64,8 +64,8 @@ fn a_fill_or_kill_order_trades_as_a_whole(rt: HostRuntime) -> Result<(), Fail> {
     )
 }
 
-/// With a minimum of 200 there is no first trade of 199, but one of 200, and then one of 1; a replacement with a minimum
-/// of 250 begins anew.
+/// With a minimum of 200 there is no first trade of 199, but one of 200, and then one of 1; a replacement with a
+/// minimum of 250 begins anew.
 #[test]
 fn a_first_trade_is_of_the_minimum(rt: HostRuntime) -> Result<(), Fail> {
     let mut sim = with_order(rt.alloc(), ENTER_200)?;

@@ -21,8 +21,8 @@ use std::alloc::{AllocError, Global};
 use std::hash::BuildHasher;
 use to_client::{Occasion, push_report, report_of};
 
-/// What a new order comes to whose verdict is this message, where so many OrderIDs and ExecIDs were given, of all
-/// clients: it takes the next OrderID and the next token, waits for the market, and one Enter Order asks it.
+/// Accepts a new order whose verdict is this message, after `order_ids` OrderIDs and `exec_ids` ExecIDs of all clients:
+/// it takes the next OrderID and the next token, waits for the market, and one Enter Order asks for it.
 ///
 /// It changes nothing. The one error is that memory ran out.
 pub fn accept<S: BuildHasher + Drop>(
@@ -83,7 +83,7 @@ fn entered<S: BuildHasher + Drop>(
     )
 }
 
-/// What is told of an order that waits for the market: one report. It is put into its list at once, since it is large.
+/// The one report of an order that waits for the market. It is put into its list at once, since it is large.
 fn report_pending(alloc: Global, number: u64, order: &Order) -> Result<Vec<AppBody>, AllocError>
     ensures { IfOk result (λ bodies. map body_fields bodies.items
         ≡ law.report number (law.plain (codes "A")) (shown_as order.now) ∷ []) }

@@ -1,6 +1,6 @@
-//! What a new order of a client comes to on the table of orders: `verdict` gives the row of its table that refuses it,
-//! or the message that asks it of the market; `refuse` what the one comes to, and `accept` what the other does: the
-//! order that waits from then on, with its token, its report and what is asked.
+//! New orders, judged on the table of orders: `verdict` gives the row of their table that refuses one, or the message
+//! that asks the market for it; `refuse` gives the report of a refusal; `accept` the waiting order with its token, its
+//! report and its message.
 //!
 //! They change nothing: their caller puts the order into the table.
 //!

@@ -12,8 +12,8 @@ use std::alloc::{AllocError, Global};
 use to_client::refusal;
 use to_market::Refusal;
 
-/// What a new order comes to whose verdict is this row, where so many OrderIDs and ExecIDs were given, of all clients:
-/// one report, with the next of both.
+/// Refuses a new order by this row, after `order_ids` OrderIDs and `exec_ids` ExecIDs of all clients: one report, with
+/// the next of both.
 ///
 /// It changes nothing. The one error is that memory ran out.
 pub fn refuse(

@@ -1,10 +1,10 @@
-//! What an accepted new order comes to.
+//! The result of accepting a new order.
 
 use client_requests::{AppBody, Order};
 use order_law::Inbound;
 use order_table::GivenToken;
 
-/// What an accepted new order comes to.
+/// The result of accepting a new order.
 #[derive(Drop)]
 pub struct AcceptedOrder {
     /// OrderID (37).
@@ -13,7 +13,7 @@ pub struct AcceptedOrder {
     pub order: Order,
     /// Its token: the next one.
     pub given: GivenToken,
-    /// The one report, that it waits: in the list that its client is told.
+    /// The one report, that it is pending: in the list of bodies for its client.
     pub bodies: Vec<AppBody>,
     /// What the market is asked, at once or as soon as the port is up.
     pub asks: Vec<Inbound>,

@@ -15,8 +15,8 @@ use to_market::{Refusal, Token, ask_of, enter_order, refuse_if, refuse_port};
 /// How many orders of a client may be open or waiting.
 const MOST_OPEN: usize = 10_000;
 
-/// The message that asks a new order of the market, or the first row of its table that holds: the ClOrdID is used;
-/// the port has ended or is faulted; those of `to_market::ask_of` on its fields; too many open orders; no token left.
+/// The message that asks the market for a new order, or the first row of its table that holds: the ClOrdID is used; the
+/// port has ended or is faulted; the rows of `to_market::ask_of` on its fields; too many open orders; no token left.
 pub fn verdict<S: BuildHasher + Drop>(
     table: &Table<S>,
     sender: &Sender,
@@ -38,7 +38,7 @@ pub fn verdict<S: BuildHasher + Drop>(
     Ok(enter_order(&ask, token, &sender.terms))
 }
 
-/// The token after so many.
+/// The token after this many.
 fn next_token(given: usize) -> Result<Token, Refusal>
     requires { given < 2 ^ 60 }
     ensures { MatchResult result

@@ -1,5 +1,5 @@
-//! The order level as one value: what clients ask goes in, and what the market is asked and clients are told comes
-//! out.
+//! The order level as one value: clients' messages and market payloads go in, messages to the market and bodies for
+//! clients come out.
 //!
 //! It is stepped by an application message of a client, or by a payload of a market port. It knows nothing of links,
 //! sequence numbers and time. Each call gives all that it causes, or changes nothing. What a port was asked and

@@ -22,7 +22,7 @@ use std::marker::Model;
 ///
 /// Clients are numbered from 1, in the order of their terms. OrderIDs, ExecIDs and token numbers each count from 1.
 /// `undo` puts back what was there at the last `settle`, and takes no memory: so where a step that this is part of
-/// can't be finished, be it for want of memory elsewhere, the order level is as before it. What is changed is kept
+/// can't be finished, be it for lack of memory elsewhere, the order level is as before it. What is changed is kept
 /// beside what it became until the next `settle`.
 ///
 /// ClOrdIDs are found by indexes over any hasher, which changes nothing but how fast they are found.
@@ -137,7 +137,7 @@ impl<S: BuildHasher + Drop> OrderCore<S> {
 
     /// Steps a payload that a market port's session gave.
     ///
-    /// What the market says of an order changes it and is told to its client, in order; what it answers isn't
+    /// What the market says of an order changes it and is reported to its client, in order; what it answers isn't
     /// outstanding any more. Any fault leaves the core as it was. The faults, the first that holds: `OutsideProfile`
     /// (a type that isn't known), `Undecodable` (another length than its type's, a field outside its set, or no byte
     /// at all), `UnknownToken` (no order of this port has it), `NotLawful` (it doesn't fit how the order stands).
@@ -194,8 +194,8 @@ impl<S: BuildHasher + Drop> OrderCore<S> {
         }
     }
 
-    /// How many orders of a client aren't closed, as its reports have them. Takes no memory, and no time that grows with
-    /// orders.
+    /// How many orders of a client aren't closed, as its reports have them. Takes no memory, and no time that grows
+    /// with orders.
     ///
     /// Source: FIX 4.4 Volume 4, "Execution Report" (LeavesQty, OrdStatus).
     pub fn open_count(&self, client: u16) -> usize

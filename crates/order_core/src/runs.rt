@@ -1,4 +1,4 @@
-//! Whole runs: what comes of a list of events, from no order on.
+//! Whole runs: a list of events, from no order on.
 
 ghost use Rattle.std.specs.Prelude.{◌≡◌, ◌∷◌, true, Some, List, length, map, IfOk, OnErr};
 ghost use Rattle.order_ledger.specs.fix_types.Application.{message_fields};
@@ -32,7 +32,7 @@ pub enum Event {
     },
 }
 
-/// What came of an event.
+/// The result of an event.
 #[derive(Drop)]
 pub struct Outcome {
     /// Whom the bodies are for; `None` where there are none.
@@ -73,7 +73,7 @@ pub fn step<S: BuildHasher + Drop>(
     }
 }
 
-/// What comes of a client's message.
+/// The result of a client's message.
 fn client_outcome<S: BuildHasher + Drop>(
     core: &mut OrderCore<S>,
     alloc: Global,
@@ -103,7 +103,7 @@ fn client_outcome<S: BuildHasher + Drop>(
     })
 }
 
-/// What comes of a payload.
+/// The result of a payload.
 fn market_outcome<S: BuildHasher + Drop>(
     core: &mut OrderCore<S>,
     alloc: Global,
@@ -138,7 +138,7 @@ fn market_outcome<S: BuildHasher + Drop>(
     }
 }
 
-/// What comes of these events, one after another from no order on, for clients with these terms.
+/// The results of these events, one after another from no order on, for clients with these terms.
 ///
 /// Each outcome is exactly what the table's step gives, and after each of them the headline holds of all turns so far,
 /// whatever the messages and payloads are.

@@ -1,5 +1,5 @@
--- Exchanges in which several replaces of an order are pending, one behind another, that are written down. The newest turn
--- is first.
+-- Exchanges in which several replaces of an order are pending, one behind another, that are written down. The newest
+-- turn is first.
 use Rattle.std.specs.Prelude.{[], ◌∷◌, codes}
 use Rattle.order_law.specs.History.{OrderHistory}
 use Rattle.order_machine.specs.fix_fields.Transcript.{message}
@@ -119,8 +119,8 @@ all_fall_under_a_cancel =
     ∷ [])
     ∷ two_replaces_and_a_cancel
 
--- the cancel of the live token is rejected, and then the oldest replace: the fall takes the last Cancel Orders with it, so
--- that the cancel's reject comes last
+-- the cancel of the live token is rejected, and then the oldest replace: the fall takes the last Cancel Orders with it,
+-- so that the cancel's reject comes last
 abbrev pub fall_answers_the_cancel : OrderHistory
 fall_answers_the_cancel =
     heard_by_client (rejected_message 2 (codes "X"))
@@ -235,8 +235,8 @@ rejected_after_it_fell =
     ∷ [])
     ∷ two_replaces_pending
 
--- a trade on the live token between two: 38 is what is executed and what the Replaced leaves open, and not the total that was
--- asked
+-- a trade on the live token between two: 38 is what is executed and what the Replaced leaves open, and not the total
+-- that was asked
 abbrev pub trades_between_replaces : OrderHistory
 trades_between_replaces =
     heard_by_client (replaced_message 2 1 350 (codes "L"))

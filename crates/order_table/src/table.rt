@@ -230,8 +230,8 @@ impl<S: BuildHasher + Drop> Table<S> {
     }
 
     /// A replace more of the order with an OrderID is pending, which was given a token; it isn't the 65,536th. Where no
-    /// order has the OrderID, or four replaces of it are pending already, nothing changes. `AllocError` leaves the table
-    /// as it was.
+    /// order has the OrderID, or four replaces of it are pending already, nothing changes. `AllocError` leaves the
+    /// table as it was.
     pub fn accept_replace(
         &mut self,
         alloc: Global,

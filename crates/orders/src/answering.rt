@@ -37,8 +37,8 @@ pub(crate) fn without(
     some_left(cancelling)
 }
 
-/// A cancel, where there is one, once the Cancel Orders of these replaces' tokens are answered; `None` where no other is
-/// left. Takes no memory.
+/// A cancel, where there is one, once the Cancel Orders of these replaces' tokens are answered; `None` where no other
+/// is left. Takes no memory.
 pub(crate) fn without_replaces(
     cancel: Option<Boxed<Cancelling>>,
     replaces: &[Replacing],

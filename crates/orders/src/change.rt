@@ -10,19 +10,20 @@ use crate::order::ToldTrade;
 /// Source: OUCH 4.2, "Outbound Messages".
 #[derive(Clone, Copy)]
 pub enum Change {
-    /// Accepted: it is in the book with so many shares at a price in 1/10,000, or dead at once.
+    /// Accepted: it is in the book with these shares at a price in 1/10,000, or dead at once.
     Opened {
         shares: u32,
         price: u32,
         is_dead: bool,
     },
-    /// Replaced: the same, under the token and the ClOrdID of its oldest pending replace. Nothing where none is pending.
+    /// Replaced: the same, under the token and the ClOrdID of its oldest pending replace. Nothing where none is
+    /// pending.
     Replaced {
         shares: u32,
         price: u32,
         is_dead: bool,
     },
-    /// Canceled: so many shares fewer are open.
+    /// Canceled: these shares are open no more.
     Canceled(u32),
     /// Executed: one trade more.
     Traded(ToldTrade),

@@ -9,7 +9,7 @@ use short_list::ShortList;
 /// What the trades of an order were before it was changed.
 #[derive(Drop)]
 pub(crate) enum EarlierTrades {
-    /// The first so many of those that there are.
+    /// The first ones of those that there are, this many.
     First(usize),
     /// These: some were marked since.
     Unmarked(Vec<ToldTrade>),

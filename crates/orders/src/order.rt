@@ -360,7 +360,7 @@ impl Order {
         Ok(())
     }
 
-    /// So many shares fewer are open; it is over where none is left.
+    /// Takes shares off what is open; it is over if none is left.
     fn reduce(&mut self, shares: u32)
         requires { Fits (changes.Canceled shares) self.old }
         ensures { self.new ≡ changed_by (changes.Canceled shares) self.old }

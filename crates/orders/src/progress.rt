@@ -66,7 +66,7 @@ impl Progress {
         }
     }
 
-    /// In the book with so many shares at this price.
+    /// In the book with these shares at this price.
     pub fn opened(self, shares: u32, price: u32) -> Progress
         requires waits { self.stage ≡ Waiting }
         requires shares { shares ≤ most_shares }
@@ -149,7 +149,7 @@ impl Progress {
         }
     }
 
-    /// So many shares fewer are open.
+    /// Some shares are taken off what is open.
     pub fn reduced(self, shares: u32) -> Progress
         requires works { self.stage ≡ Working }
         requires open { shares ≤ self.unfilled }
@@ -178,7 +178,7 @@ impl Progress {
         }
     }
 
-    /// So many shares were traded at this price, and something is open still.
+    /// Shares were traded at this price, and something is still open.
     pub fn traded(self, shares: u32, price: u32) -> Progress
         requires works { self.stage ≡ Working }
         requires open { shares ≤ self.unfilled }
@@ -206,7 +206,7 @@ impl Progress {
         }
     }
 
-    /// All that is open, so many shares, was traded at this price. Its total stays.
+    /// All that is open was traded at this price. Its total stays.
     pub fn filled(self, shares: u32, price: u32) -> Progress
         requires works { self.stage ≡ Working }
         requires open { shares ≡ self.unfilled }

@@ -1,4 +1,4 @@
-//! The list of messages.
+//! The list of outstanding messages.
 
 ghost use Rattle.std.specs.Prelude.{◌≡◌, ◌+◌, ◌≤◌, ◌<◌, ◌++◌, [], false, map, filter, decimal, length};
 ghost use Rattle.std.specs.Prelude.{vec_len, vec_capacity, IfOk, OnErr};
@@ -74,7 +74,7 @@ impl AskedMessages {
         }
     }
 
-    /// Makes room for so many messages more. `AllocError` leaves what there is.
+    /// Makes room for this many more messages. `AllocError` leaves the list as it was.
     pub fn reserve(&mut self, more: usize) -> Result<(), AllocError>
         ensures room { IfOk result (λ nothing. more ≤ self.new.room) }
         ensures same { self.new.messages ≡ self.old.messages }
@@ -83,8 +83,7 @@ impl AskedMessages {
         self.messages.reserve(more)
     }
 
-    /// A port is asked these messages of an order, one after another: they stand behind the others. `AllocError` leaves
-    /// what there is.
+    /// Adds messages that a port is asked of an order, behind the others. `AllocError` leaves the list as it was.
     pub fn push(&mut self, port: u16, order_id: u64, messages: &[Inbound]) -> Result<(), AllocError>
         ensures pushed { IfOk result (λ nothing. self.new.messages
             ≡ self.old.messages ++ kept_from port (decimal order_id) messages.now) }
@@ -96,7 +95,7 @@ impl AskedMessages {
         Ok(())
     }
 
-    /// The same, where there is room: it takes no memory.
+    /// The same if there is room: it takes no memory.
     pub fn push_reserved(&mut self, port: u16, order_id: u64, messages: &[Inbound])
         requires { length messages.now ≤ self.old.room }
         ensures pushed { self.new.messages ≡ self.old.messages ++ kept_from port (decimal order_id) messages.now }
@@ -105,10 +104,10 @@ impl AskedMessages {
         push_each(&mut self.messages, port, order_id, messages);
     }
 
-    /// A message from the market was handled on a port, on the order with this OrderID, which is closed now or not. Of
-    /// what the port was asked of the order that goes which the message answers, and all where the order is closed.
-    /// `next` has the tokens that the order's pending replaces asked for before the message, the oldest first: a
-    /// Rejected of one answers those behind it too. Takes no memory.
+    /// A message from the market was handled on a port, on the order with this OrderID, which is closed now or not:
+    /// removes what the message answers of what the port was asked of the order, and all if the order is closed. `next`
+    /// has the tokens that the order's pending replaces asked for before the message, the oldest first: a Rejected of
+    /// one answers those behind it too. Takes no memory.
     ///
     /// Source: OUCH 4.2, "Outbound Messages".
     pub fn answer(

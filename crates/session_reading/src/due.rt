@@ -1,4 +1,4 @@
-//! What a moment brings: silence of either side, or of a link that doesn't log on.
+//! What is due at a moment: after silence of either side, or on a link that doesn't log on.
 //!
 //! Source: FIX 4.4 Volume 2, "Heartbeat" and "Test Request"; the limits are the gateway's own.
 
@@ -41,7 +41,7 @@ pub fn due_at(phase: Phase, now: u64) -> Due
     }
 }
 
-/// What is due of a client that is logged on.
+/// What is due to a client that is logged on.
 fn due_of(on: &Logged, now: u64) -> Due
     ensures { answer_by (table.silence_rows on.now now) ≡ due_answer result }
 {

@@ -1,6 +1,6 @@
-//! Which row of the session's table a message or a moment meets, as far as one message or one moment tells it.
+//! Which row of the session's table a message or a moment meets, as far as that message or moment alone decides it.
 //!
-//! Judging changes nothing and takes no memory. What a row gives is done elsewhere.
+//! Judging changes nothing and takes no memory. The row's answer is made by `fix_session`.
 //!
 //! Source: FIX 4.4 Volume 2, "Session Protocol".
 #![tactic(auto)]

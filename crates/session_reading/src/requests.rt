@@ -1,4 +1,4 @@
-//! Application messages, before anybody judges their values.
+//! Application messages: their required tags and formats, before anybody judges their values.
 
 ghost use Rattle.std.specs.Prelude.{◌≡◌, ◌||◌, IfOk, None, bytes_eq, codes};
 ghost use Rattle.session_law.specs.Formats as formats;

@@ -1,4 +1,4 @@
-//! The lines of a client that is logged on, as far as the message alone tells them.
+//! The rows of a client that is logged on, as far as the message alone decides them.
 
 ghost use Rattle.std.specs.Prelude.{◌≡◌, true, false, unwrap_or, codes, if◌then◌else◌, ℕ};
 ghost use Rattle.fix_types.specs.fix_fields.Field as tags;
@@ -13,7 +13,7 @@ use crate::taken::Taken;
 use crate::words::{has, is_letter};
 use fix_types::{Fields, SessionRejectReason};
 
-/// A line of the table of a client that is logged on.
+/// A row of the table of a client that is logged on.
 #[derive(Clone, Copy, PartialEq, Eq)]
 pub enum Row {
     /// No number: a Logout, and the end.

@@ -1,4 +1,4 @@
-//! What the message with the expected number brings; also what a ResendRequest brings.
+//! The row that the message with the expected number meets; also the row of a ResendRequest.
 
 ghost use Rattle.std.specs.Prelude.{◌≡◌, ◌≤◌, ◌+◌, true, false, None, codes, unwrap_or, ℕ};
 ghost use Rattle.fix_types.specs.fix_fields.Field as tags;
@@ -16,7 +16,7 @@ use crate::requests::{is_app_type, refusal_of};
 use crate::words::{has, is_byte, number, text};
 use fix_types::{Fields, SessionRejectReason};
 
-/// What the message with the expected number brings.
+/// The answer to the message with the expected number.
 #[derive(Clone, Copy, PartialEq, Eq)]
 pub enum Taken {
     /// Nothing is answered.
@@ -49,7 +49,7 @@ fn rejected(tag: u32, reason: SessionRejectReason) -> Taken
     }
 }
 
-/// What a ResendRequest brings, where so many numbers were given.
+/// The answer to a ResendRequest, after `last` numbers were given.
 pub fn judge_resend(m: &Fields, last: u64) -> Taken
     ensures answer { table.resend_answer last m.now ≡ taken_answer m.now result }
     ensures fits { TakenFits m.now last result }
@@ -84,7 +84,7 @@ fn until(last: u64, to: u64) -> u64
     if to == 0 || last < to { last } else { to }
 }
 
-/// What the message with the expected number brings, where so many numbers were given.
+/// The answer to the message with the expected number, after `last` numbers were given.
 pub fn judge_taken(m: &Fields, last: u64) -> Taken
     ensures answer { answer_by (table.expected_rows last m.now) ≡ taken_answer m.now result }
     ensures fits { TakenFits m.now last result }

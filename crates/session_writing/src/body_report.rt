@@ -70,7 +70,7 @@ impl BodyReport {
 /// The report of a body that is issued, under these names and with this number, at a moment. One growth, where the
 /// names have 60 bytes at most and the body's texts aren't long.
 ///
-/// Where it prints in more than `IssuedReport::LONGEST` bytes it is answered as want of memory. No report does, since
+/// Where it prints in more than `IssuedReport::LONGEST` bytes it answers `AllocError`. No report does, since
 /// its longest texts are those of a frame of 8,192 bytes at most; that isn't proved.
 pub fn report_of_body(
     alloc: Global,

@@ -13,7 +13,7 @@ use session_law::IssuedReport;
 use session_reading::Phase;
 use std::alloc::{AllocError, Global};
 
-/// The report of these fields; want of memory where they print in more than `IssuedReport::LONGEST` bytes.
+/// The report of these fields; `AllocError` where they print in more than `IssuedReport::LONGEST` bytes.
 pub(crate) fn report_in_limit(printed: PrintedFields) -> Result<IssuedReport, AllocError>
     ensures { IfOk result (λ report. report ≡ printed) }
 {

@@ -110,7 +110,7 @@ impl KeptBodies {
         Ok(())
     }
 
-    /// Only the first numbers are left, so many of them, and the text up to where the last of their bodies ends. Takes
+    /// Keeps the first `count` numbers alone, and the text up to where the last of their bodies ends. Takes
     /// no memory, and a moment for each number that is left, if any goes.
     pub fn cut(&mut self, count: usize)
         ensures { self.new ≡ take count self.old }
@@ -226,7 +226,7 @@ fn between(places: &[KeptPlace], from: u64, to: u64) -> &[KeptPlace]
     asked
 }
 
-/// So many, and no more than there are.
+/// The number wanted, and no more than there are.
 fn at_most(wanted: u64, there: usize) -> usize
     ensures { result ≡ min wanted there }
 {

@@ -117,7 +117,7 @@ fn printed_frame(
     Ok(fields)
 }
 
-/// The fields of a frame before its body, in a text with room for a body of so many bytes. One growth, where the names
+/// The fields of a frame before its body, in a text with room for a body of this size. One growth, where the names
 /// have 60 bytes at most.
 pub(crate) fn printed_front(
     alloc: Global,

@@ -14,7 +14,7 @@ pub enum Head {
     Partial,
     /// A length of 0.
     Empty,
-    /// A packet of so many bytes.
+    /// A packet of this many bytes.
     Whole(usize),
 }
 

@@ -10,8 +10,8 @@ use std::fmt::{Display, Write};
 const LONGEST: usize = 1024;
 
 /// A line that waits to be written: what a value shows, its first 1,024 bytes at most, with a dot for each byte that
-/// isn't printable ASCII, so that no text of a peer ends a line or moves a terminal's cursor. It is copied, and takes no
-/// memory of its own.
+/// isn't printable ASCII, so that no text of a peer ends a line or moves a terminal's cursor. It is copied, and takes
+/// no memory of its own.
 #[derive(Clone, Copy, Drop)]
 pub struct Line {
     bytes: [u8; 1024],

@@ -1,4 +1,4 @@
-//! The buffer of a reader.
+//! The buffer of a stream's reader.
 
 ghost use Rattle.std.specs.Prelude.{◌≡◌, ◌≤◌, ◌<◌, ◌*◌, ◌^◌, ◌++◌, [], length, vec_len, drop, OnOk, OnErr};
 ghost use Rattle.stream_buffer.specs.Buffer.{Buffer, Takes, LetsGo, empty_buffer};
@@ -6,17 +6,17 @@ ghost use Rattle.stream_buffer.specs.Buffer.{Buffer, Takes, LetsGo, empty_buffer
 use std::alloc::{AllocError, Global};
 use std::marker::Model;
 
-/// The bytes of a stream that a reader holds: it has taken them, and not let them go. Behind them may stand a piece
-/// that is offered: it can be read with them before it is taken, and given up again.
+/// The bytes of a stream that a reader holds: taken, and not dropped. Behind them may stand a piece that is offered: it
+/// can be read with them before it is taken, and given up again.
 ///
 /// Contracts see what is held and offered, how many bytes are free in front, how many bytes were written into the
-/// buffer and how many were taken.
+/// buffer, and how many were taken.
 #[derive(Drop)]
 pub struct StreamBuffer {
     bytes: Vec<u8>,
-    // so many bytes in front were let go
+    // how many bytes in front were dropped
     start: usize,
-    // so many bytes are held or were let go; those behind are offered
+    // how many bytes are held or were dropped; those behind are offered
     taken: usize,
     copied: u64,
     fed: u64,
@@ -68,8 +68,8 @@ impl StreamBuffer {
         Ok(())
     }
 
-    /// Takes a piece of which so many bytes in front need not be held, where nothing is held: only what is behind them
-    /// is written. One growth; `AllocError` leaves the buffer as it was.
+    /// Takes a piece whose first `used` bytes need not be held, if nothing is held: only the rest is written. One
+    /// growth; `AllocError` leaves the buffer as it was.
     pub fn put_behind(
         &mut self,
         _alloc: Global,
@@ -120,8 +120,8 @@ impl StreamBuffer {
         self.bytes.truncate(self.taken);
     }
 
-    /// Lets go so many bytes in front. What is left is moved to the buffer's front where it isn't longer than all that
-    /// was let go before it, so that no byte is moved more often than one is let go. Takes no memory.
+    /// Drops the first `count` bytes. What is left is moved to the buffer's front if it isn't longer than all that was
+    /// dropped before it, so that no more bytes are moved than are dropped. Takes no memory.
     pub fn pass(&mut self, count: usize)
         requires none { self.old.offered ≡ [] }
         requires held { count ≤ length self.old.kept.held }
@@ -147,7 +147,7 @@ impl StreamBuffer {
         held
     }
 
-    /// What is held, and behind it what is offered.
+    /// What is held, with what is offered behind it.
     pub fn joined(&self) -> &[u8]
         ensures { result.now ≡ self.now.kept.held ++ self.now.offered }
     {
@@ -155,8 +155,8 @@ impl StreamBuffer {
         joined
     }
 
-    /// How many bytes were written into the buffer, from a piece or when what is held is moved to its front;
-    /// 2^64 - 1 stands for more. Takes no memory.
+    /// How many bytes were written into the buffer, from a piece or as what is held is moved to the front; 2^64 - 1
+    /// stands for more. Takes no memory.
     pub fn copied(&self) -> u64
         ensures now { result ≡ self.now.kept.copied }
         ensures most { self.now.kept.fed < 2 ^ 62 → result ≤ 2 * self.now.kept.fed }
@@ -172,7 +172,7 @@ impl StreamBuffer {
     }
 }
 
-/// Takes so many bytes away in front. Takes no memory.
+/// Removes the first `count` bytes. Takes no memory.
 fn drop_front(bytes: &mut Vec<u8>, count: usize)
     requires { count ≤ vec_len bytes.old }
     ensures { bytes.new.items ≡ drop count bytes.old.items }

@@ -1,7 +1,7 @@
 //! The lines of a stream: a reader of bytes in, a line at a time out.
 //!
 //! The stream is read a piece at a time, and cut at each newline. What stands behind the last newline is a line too,
-//! be it empty. A read that was interrupted is made again; one that fails, and want of memory, are told.
+//! be it empty. A read that was interrupted is made again; one that fails, and a lack of memory, are answered.
 #![tactic(auto)]
 
 mod lines;

@@ -36,8 +36,8 @@ abbrev pub rejects_of : law.Shown → Option Entry → ℕ → List ℕ → List
 rejects_of s None code why = []
 rejects_of s (Some q) code why = law.answered_no s q code why ∷ []
 
--- Rejects of replaces that are pending one behind another, with these requests behind them: the first for one reason, the
--- others for another. Each shows its order with those pending that stand behind its own replace.
+-- Rejects of replaces that are pending one behind another, with these requests behind them: the first for one reason,
+-- the others for another. Each shows its order with those pending that stand behind its own replace.
 abbrev pub each_rejected : law.Shown → List Entry → List Entry → ℕ → List ℕ → List ℕ → List Message
 each_rejected s [] later code why further = []
 each_rejected s (q ∷ qs) later code why further =

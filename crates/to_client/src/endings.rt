@@ -1,4 +1,4 @@
-//! What answers the requests on an order, and what ends it: bodies behind those that are told already.
+//! Bodies that answer the requests on an order, and that end it.
 //!
 //! The one error of each is that memory ran out; then the bodies are of no use any more.
 

@@ -1,4 +1,4 @@
-//! An order and its pending requests, as what a client is told shows them.
+//! An order and its pending requests, as reports and rejects show them.
 
 ghost use Rattle.std.specs.Prelude.{◌≡◌, ◌≤◌, length};
 ghost use Rattle.order_law.specs.Asks.{total_of};

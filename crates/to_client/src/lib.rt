@@ -1,4 +1,4 @@
-//! What a client is told of an order and of its requests: execution reports and rejects.
+//! The bodies of what a client is sent about an order and its requests: execution reports and rejects.
 #![tactic(auto)]
 
 mod endings;

@@ -12,7 +12,7 @@ pub enum Occasion {
     PendingNew,
     /// The market took it.
     New,
-    /// So many shares were traded, at this price in 1/10,000.
+    /// Shares were traded, at this price in 1/10,000.
     Trade { shares: u32, price: u32 },
     /// The market took something off what was open.
     Restated(u8),

@@ -1,9 +1,9 @@
-//! An order and a request, as what a client is told shows them.
+//! An order and a request, as reports and rejects show them.
 
 use fix_values::{Character, ClOrdId, CxlRejResponseTo};
 use orders::{CancelRequest, Progress, ReplaceRequest, Symbol};
 
-/// An order as a report or reject shows it: as it is after what is told.
+/// An order as a report or reject shows it: as it is after what the body reports.
 #[derive(Clone, Copy)]
 pub struct Shown<'a> {
     /// OrderID (37).

@@ -1,4 +1,4 @@
-//! What a new order asks, in the market's words, or the first reason why it can't be asked.
+//! What a new order asks of the market, or the first row that refuses it.
 
 ghost use Rattle.std.specs.Prelude.{◌≡◌, ℕ, ◌-◌, List, ◌++◌, ◌∷◌, [], Option, true, false, length, replicate};
 ghost use Rattle.std.specs.Prelude.{unwrap_or, Some, IfSome, IfOk, MatchOption, MatchResult};
@@ -55,7 +55,7 @@ pub fn ask_of(order: &NewOrder, terms: &ClientTerms) -> Result<NewAsk, Refusal>
     })
 }
 
-/// The message that asks it.
+/// The Enter Order that asks for it.
 pub fn enter_order(ask: &NewAsk, token: Token, terms: &ClientTerms) -> EnterOrder
     ensures token { result.token ≡ token }
     ensures side { result.side ≡ ask.now.side }

@@ -1,4 +1,4 @@
-//! The tables of verdicts on new orders, cancels and replaces: what each row says where it refuses.
+//! The rows of the tables on new orders, cancels and replaces, with their codes and texts.
 //!
 //! A row that two tables have stands once, with its code in either: 103 and 102 have codes of their own.
 //!
@@ -33,7 +33,7 @@ pub enum Refusal {
     Symbol,
     /// OrdType (40) is not 2, limit.
     OrderType,
-    /// TimeInForce (59) is there and not 0, day, or 3, immediate or cancel.
+    /// TimeInForce (59) is there and not 0, day, or 3, immediate or cancel, nor, of a new order, 4, fill or kill.
     TimeInForce,
     /// ExecInst (18) is there and not 6, participate don't initiate.
     ExecutionInstruction,

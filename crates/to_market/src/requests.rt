@@ -1,4 +1,4 @@
-//! What a cancel or a replace of an order asks, in the market's words, or the first reason why it can't be asked.
+//! What a cancel or a replace of an order asks of the market, or the first row that refuses it.
 
 ghost use Rattle.std.specs.Prelude.{◌≡◌, ℕ, ◌+◌, ◌<◌, ◌||◌, List, ◌∷◌, [], Bool, Option, true, false, nat_le, codes};
 ghost use Rattle.std.specs.Prelude.{Some, IfOk, MatchResult};
@@ -32,10 +32,10 @@ use order_law::Text;
 use ouch_codec::{Cancel, Replace};
 use tokens::Token;
 
-/// So many replaces may be accepted of an order.
+/// How many replaces of an order may be accepted.
 const MOST_REPLACES: u64 = 65_535;
 
-/// So many of them may be pending at once.
+/// How many of them may be pending at once.
 const MOST_PENDING: usize = 4;
 
 /// The first of the table's rows that refuses a cancel, if one does. They read whether its ClOrdID (11) is used
@@ -60,9 +60,8 @@ pub fn refuse_cancel(
 }
 
 /// What a replace asks, or the first of the table's rows that refuses it. `given` tokens were given so far; it takes
-/// the next one. What is taken has room: fewer than 65,535 replaces of its order were accepted, and fewer than four are
-/// pending. The rest is as of
-/// `refuse_cancel`.
+/// the next one. An accepted one has room: fewer than 65,535 replaces of its order were accepted, and fewer than four
+/// are pending. The other rows are those of `refuse_cancel`.
 ///
 /// Source: FIX 4.4 Volume 4, "Order Cancel/Replace Request".
 pub fn ask_of_replace(
@@ -182,7 +181,7 @@ pub fn refuse_port(port: PortState) -> Result<(), Refusal>
     }
 }
 
-/// A further replace has to wait: a cancel is pending, or as many replaces as may be.
+/// Whether a further replace has to wait: a cancel is pending, or as many replaces as may be.
 fn has_to_wait(order: &NamedOrder) -> bool
     ensures { result ≡ (order.now.has_pending_cancel || nat_le most_pending order.now.pending_replaces) }
 {
@@ -218,7 +217,7 @@ fn is_other_text(given: &Option<Text>, kept: &[u8]) -> bool
     }
 }
 
-/// The token after so many.
+/// The next token after this many.
 fn token_after(given: u64) -> Result<Token, Refusal>
     ensures { MatchResult result
         (λ token. (nat_le last_token given ≡ false) × (token ≡ token_text (given + 1)))

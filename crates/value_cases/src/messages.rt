@@ -11,7 +11,7 @@ use std::alloc::{AllocError, Global};
 /// A message, or why fields are none.
 type Read<M> = Result<M, SessionRefusal>;
 
-/// Want of memory apart from refusals.
+/// Running out of memory, apart from refusals.
 fn read<M: Drop>(read: Result<M, TextFault>) -> Result<Read<M>, AllocError> {
     match read {
         Ok(message) => Ok(Ok(message)),

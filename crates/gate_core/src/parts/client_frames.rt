@@ -21,7 +21,7 @@ use std::alloc::{AllocError, Global};
 use std::hash::BuildHasher;
 
 impl<S: BuildHasher + Drop> Parts<S> {
-    /// A frame on a client's current link: what its session delivers is a turn of the order level.
+    /// A frame on a client's current link: the message that its session delivers is a turn of the order level.
     pub(crate) fn client_message(
         &mut self,
         alloc: Global,
@@ -49,7 +49,7 @@ impl<S: BuildHasher + Drop> Parts<S> {
         }
     }
 
-    /// A frame whose message the session of the client at a place delivered, and what it said to it.
+    /// A frame whose message the client's session delivered, with the session's output.
     fn message_delivered(
         &mut self,
         alloc: Global,
@@ -77,7 +77,7 @@ impl<S: BuildHasher + Drop> Parts<S> {
         Ok(Batch::of_parts(client, reports, client_out, port, port_out, None))
     }
 
-    /// A frame of which the session of the client at a place gave nothing up, and what it said to it.
+    /// A frame that the session handled itself, with its output.
     fn no_message_delivered(
         &mut self,
         alloc: Global,

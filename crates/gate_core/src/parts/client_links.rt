@@ -19,7 +19,7 @@ use std::alloc::{AllocError, Global};
 use std::hash::BuildHasher;
 
 impl<S: BuildHasher + Drop> Parts<S> {
-    /// A client's link is up: the session is told, or, where another is current, the new one is closed.
+    /// A client's link is up: it becomes the session's; if another is current, the new one is closed.
     pub(crate) fn client_up(
         &mut self,
         alloc: Global,
@@ -82,7 +82,7 @@ impl<S: BuildHasher + Drop> Parts<S> {
         Ok(Batch::for_client(alloc, client, ShortList::new(), outs))
     }
 
-    /// The place of a client, where the settings have it.
+    /// The index of a client, if the settings have it.
     pub(crate) fn client_place(&self, client: ClientNumber) -> Option<usize>
         ensures known { (s : Settings) (v : Lists) → ArePartsOf s v self.now → is_some result ≡ has_client s client }
         ensures place { IfSome result (λ place. (client ≡ place + 1) × (place < length self.now.clients.lines.items)) }
@@ -90,7 +90,7 @@ impl<S: BuildHasher + Drop> Parts<S> {
         place_of(client.number(), self.clients.lines.len())
     }
 
-    /// The current link of the client at a place.
+    /// The current link of the client at an index.
     pub(crate) fn client_link(&self, place: usize) -> Option<u64>
         requires place { place < length self.now.clients.lines.items }
         ensures link { (s : Settings) (v : Lists) → ArePartsOf s v self.now → result ≡ v.client_link (place + 1) }
@@ -98,7 +98,7 @@ impl<S: BuildHasher + Drop> Parts<S> {
         self.clients.lines[place].link
     }
 
-    /// The place of a client of which this link is the current one.
+    /// The index of a client whose current link this is.
     pub(crate) fn client_on(&self, client: ClientNumber, link: u64) -> Option<usize>
         ensures on { (s : Settings) (v : Lists) → ArePartsOf s v self.now
             → is_some result ≡ (has_client s client && is_the_number link (v.client_link client)) }
@@ -112,7 +112,7 @@ impl<S: BuildHasher + Drop> Parts<S> {
         }
     }
 
-    /// Why a frame of a client's link that isn't logged on is answered by the link's end alone.
+    /// Why a link's first frame is answered by nothing but the link's end.
     pub(crate) fn logon_fault(&self, client: ClientNumber, frame: &Fields) -> Option<LogonFault>
         ensures { (s : Settings) (v : Lists) → ArePartsOf s v self.now
             → result ≡ logon_fault_now s client (v.client_calls client) frame.now }

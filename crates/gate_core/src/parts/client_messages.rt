@@ -1,4 +1,4 @@
-//! What a message that a client's session delivered comes to.
+//! A message that a client's session delivered: the order level's turn, its reports, its messages to the market.
 
 ghost use Rattle.std.specs.Prelude.{◌≡◌, ◌<◌, ◌+◌, length, map, IfOk};
 ghost use Rattle.fix_types.specs.Application.{body_fields};
@@ -22,18 +22,18 @@ use short_list::ShortList;
 use std::alloc::{AllocError, Global};
 use std::hash::BuildHasher;
 
-/// What comes of a message that a client's session delivered.
+/// The result of a delivered message.
 #[derive(Drop)]
 pub(crate) struct Asked {
-    /// What was reported, and what the client's link is told of it.
+    /// The reports, and the output to the client's link.
     pub issues: Issues,
-    /// What the link of the client's port is told.
+    /// The output to the link of the client's port.
     pub port_outs: ShortList<LinkOut>,
 }
 
 impl<S: BuildHasher + Drop> Parts<S> {
-    /// A message that a client's session delivered: the order level's turn, its bodies issued to the client and its
-    /// messages sent on the client's port, which stands at this place.
+    /// Handles a delivered message: the order level's turn, its bodies issued to the client, and its messages sent on
+    /// the client's port.
     pub(crate) fn ask(
         &mut self,
         alloc: Global,
@@ -56,7 +56,7 @@ impl<S: BuildHasher + Drop> Parts<S> {
         Ok(Asked { issues, port_outs })
     }
 
-    /// The order level's turn of a message of the client at a place.
+    /// The order level's turn of a client's message.
     pub(crate) fn take(
         &mut self,
         alloc: Global,
@@ -78,7 +78,7 @@ impl<S: BuildHasher + Drop> Parts<S> {
         Ok(out)
     }
 
-    /// The place of the port of the client at a place.
+    /// The index of the port of the client at an index.
     pub(crate) fn port_at(&self, place: usize) -> usize
         requires place { place < length self.now.clients.lines.items }
         requires shaped { IsShaped self.now }
@@ -88,7 +88,7 @@ impl<S: BuildHasher + Drop> Parts<S> {
         usize::from(self.client_ports[place]) - 1
     }
 
-    /// Bodies are issued to the client at a place, in order.
+    /// Issues bodies to a client, in order.
     pub(crate) fn issue(
         &mut self,
         alloc: Global,
@@ -105,7 +105,7 @@ impl<S: BuildHasher + Drop> Parts<S> {
         Ok(issues)
     }
 
-    /// Messages are sent on the port at a place, in order; where it isn't up there are none.
+    /// Sends messages on a port, in order; none if it isn't up.
     pub(crate) fn send(
         &mut self,
         alloc: Global,
@@ -129,7 +129,7 @@ impl<S: BuildHasher + Drop> Parts<S> {
     }
 }
 
-/// How a port stands for the order level: where no login was accepted, messages wait.
+/// The state of a port as the order level sees it: before a login is accepted, messages wait.
 fn stands(state: soup_session::PortState) -> PortState
     ensures { port_seen result ≡ stands_of state }
 {

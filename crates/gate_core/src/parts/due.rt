@@ -1,4 +1,4 @@
-//! Whether an event gives anything, by the parts.
+//! Whether an event produces anything.
 
 ghost use Rattle.std.specs.Prelude.{◌≡◌};
 ghost use Rattle.gate_law.specs.Settings.{Settings};
@@ -13,7 +13,7 @@ use std::alloc::Global;
 use std::hash::BuildHasher;
 
 impl<S: BuildHasher + Drop> Parts<S> {
-    /// Whether an event is none that only says that time passes and gives nothing.
+    /// Whether an event produces anything, or may: `false` of a tick that produces nothing.
     pub(crate) fn is_due(&self, alloc: Global, event: &Event) -> bool
         ensures { (s : Settings) (v : Lists) → ArePartsOf s v self.now → result ≡ event_due s v (event_seen event.now) }
     {
@@ -29,7 +29,7 @@ impl<S: BuildHasher + Drop> Parts<S> {
         }
     }
 
-    /// Whether a tick of this moment gives a client's link anything.
+    /// Whether a tick of this moment produces output to a client's link.
     fn is_client_due(&self, client: ClientNumber, at: u64) -> bool
         ensures { (s : Settings) (v : Lists) → ArePartsOf s v self.now
             → result ≡ client_due s client (v.client_calls client) at }
@@ -40,7 +40,7 @@ impl<S: BuildHasher + Drop> Parts<S> {
         }
     }
 
-    /// Whether a tick of this moment gives a port's link anything.
+    /// Whether a tick of this moment produces output to a port's link.
     fn is_port_due(&self, alloc: Global, port: PortNumber, at: u64) -> bool
         ensures { (s : Settings) (v : Lists) → ArePartsOf s v self.now
             → result ≡ port_due s port (v.port_calls port) at }

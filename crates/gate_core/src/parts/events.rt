@@ -1,4 +1,4 @@
-//! Every event, on the parts.
+//! Every event, a line each.
 
 ghost use Rattle.std.specs.Prelude.{◌^◌, IfOk};
 ghost use Rattle.order_core.specs.State.{CoreHasRoom};

@@ -22,8 +22,8 @@ use std::alloc::{AllocError, Global};
 use std::hash::BuildHasher;
 
 impl<S: BuildHasher + Drop> Parts<S> {
-    /// A port's link is up: the session is told, and may close it at once; or, where another is current, the new one
-    /// is closed.
+    /// A port's link is up: it becomes the session's, which may close it at once; if another is current, the new one is
+    /// closed.
     pub(crate) fn port_up(
         &mut self,
         alloc: Global,
@@ -81,7 +81,7 @@ impl<S: BuildHasher + Drop> Parts<S> {
         Ok(Batch::for_port(alloc, port, outs, None))
     }
 
-    /// The place of a port, where the settings have it.
+    /// The index of a port, if the settings have it.
     pub(crate) fn port_place(&self, port: PortNumber) -> Option<usize>
         ensures known { (s : Settings) (v : Lists) → ArePartsOf s v self.now → is_some result ≡ has_port s port }
         ensures place { IfSome result (λ place. (port ≡ place + 1) × (place < length self.now.ports.lines.items)) }
@@ -89,7 +89,7 @@ impl<S: BuildHasher + Drop> Parts<S> {
         place_of(port.number(), self.ports.lines.len())
     }
 
-    /// The current link of the port at a place.
+    /// The current link of the port at an index.
     pub(crate) fn port_link(&self, place: usize) -> Option<u64>
         requires place { place < length self.now.ports.lines.items }
         ensures link { (s : Settings) (v : Lists) → ArePartsOf s v self.now → result ≡ v.port_link (place + 1) }
@@ -97,7 +97,7 @@ impl<S: BuildHasher + Drop> Parts<S> {
         self.ports.lines[place].link
     }
 
-    /// How the port at a place stands.
+    /// The state of the port at an index.
     pub(crate) fn port_state(&self, place: usize) -> PortState
         requires place { place < length self.now.ports.lines.items }
         ensures state { (s : Settings) (v : Lists) → ArePartsOf s v self.now
@@ -107,7 +107,7 @@ impl<S: BuildHasher + Drop> Parts<S> {
         self.ports.lines[place].state()
     }
 
-    /// The fault of a port, where the settings have the port and it is faulted.
+    /// The fault of a port, if the settings have the port and it is faulted.
     pub(crate) fn port_fault(&self, port: u16) -> Option<PortFault>
         ensures { (s : Settings) (v : Lists) → ArePartsOf s v self.now
             → result ≡ fault_now s port (v.port_calls port) }
@@ -116,7 +116,7 @@ impl<S: BuildHasher + Drop> Parts<S> {
         fault_of(self.port_state(place))
     }
 
-    /// The place of a port of which this link is the current one.
+    /// The index of a port whose current link this is.
     pub(crate) fn port_on(&self, port: PortNumber, link: u64) -> Option<usize>
         ensures on { (s : Settings) (v : Lists) → ArePartsOf s v self.now
             → is_some result ≡ (has_port s port && is_the_number link (v.port_link port)) }

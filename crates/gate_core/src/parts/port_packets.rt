@@ -1,4 +1,4 @@
-//! A port's packet of which the session delivers no payload.
+//! Packets of ports.
 
 ghost use Rattle.std.specs.Prelude.{◌≡◌, ◌<◌, ◌+◌, ◌^◌, ℕ, length, map, None, option_to_list, IfOk};
 ghost use Rattle.gate_law.specs.soup_packets.declared.packet.Packet as packet;
@@ -24,8 +24,8 @@ use std::alloc::{AllocError, Global};
 use std::hash::BuildHasher;
 
 impl<S: BuildHasher + Drop> Parts<S> {
-    /// A packet on a port's current link: a payload that its session delivers is a turn of the order level; where the
-    /// port comes up, all that is outstanding on it is sent.
+    /// A packet on a port's current link: a payload that its session delivers is a turn of the order level; if the port
+    /// comes up, all that is outstanding on it is sent.
     pub(crate) fn port_packet(
         &mut self,
         alloc: Global,
@@ -79,8 +79,7 @@ impl<S: BuildHasher + Drop> Parts<S> {
         Ok(Batch::for_port(alloc, PortNumber::at_place(place), outs, fault))
     }
 
-    /// Sends a port that stood as given, and is up now, all that is outstanding on it: once more where it was sent
-    /// before.
+    /// If the port came up, sends all that is outstanding on it: once more if it was sent before.
     fn send_again(
         &mut self,
         alloc: Global,

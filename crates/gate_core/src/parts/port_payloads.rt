@@ -1,4 +1,4 @@
-//! What a payload that a port's session delivered comes to.
+//! A payload that a port's session delivered: bodies for a client, nothing, or a fault.
 
 ghost use Rattle.std.specs.Prelude.{◌≡◌, ◌<◌, ◌+◌, ◌&&◌, ℕ, List, [], Some, None, length, map, nat_le};
 ghost use Rattle.std.specs.Prelude.{is_some, option_to_list, IfOk, IfSome};
@@ -29,7 +29,7 @@ use soup_session::{PortFault, PortOut, PortState};
 use std::alloc::{AllocError, Global};
 use std::hash::BuildHasher;
 
-/// What the order level makes of a payload.
+/// The order level's answer to a payload.
 #[derive(Drop)]
 pub(crate) enum Judged {
     /// Bodies for the client at a place, or nothing for anybody.
@@ -37,7 +37,7 @@ pub(crate) enum Judged {
         client: Option<usize>,
         bodies: Vec<AppBody>,
     },
-    /// It is at fault.
+    /// The payload is at fault.
     Faulty(PortFault),
 }
 
@@ -66,7 +66,7 @@ impl<S: BuildHasher + Drop> Parts<S> {
         }
     }
 
-    /// The place of the client that bodies are for.
+    /// The index of the client that bodies are for.
     fn addressee(&self, client: Option<u16>) -> Option<usize>
         ensures known { is_some result ≡ (nat_le 1 (client_seen client)
             && nat_le (client_seen client) (length self.now.clients.lines.items)) }
@@ -76,7 +76,7 @@ impl<S: BuildHasher + Drop> Parts<S> {
         place_of(client?, self.clients.lines.len())
     }
 
-    /// A payload that the session of the port at a place delivered, and what it said to its packet.
+    /// Handles a payload that the session of the port at an index delivered, with the session's output.
     pub(crate) fn payload_delivered(
         &mut self,
         alloc: Global,
@@ -103,7 +103,7 @@ impl<S: BuildHasher + Drop> Parts<S> {
         }
     }
 
-    /// The bodies that a payload led to are issued to the client at a place.
+    /// Issues the bodies that a payload led to.
     fn tell(
         &mut self,
         alloc: Global,
@@ -131,7 +131,7 @@ impl<S: BuildHasher + Drop> Parts<S> {
         Ok(Batch::of_parts(client, reports, client_out, port, port_out, None))
     }
 
-    /// A payload of which nobody is told.
+    /// A payload that leads to no body.
     fn tell_nobody(
         &mut self,
         alloc: Global,
@@ -151,7 +151,7 @@ impl<S: BuildHasher + Drop> Parts<S> {
         Ok(Batch::for_port(alloc, PortNumber::at_place(place), port_out, None))
     }
 
-    /// A payload at fault: the port's session is told, and its link is closed.
+    /// A payload at fault: the port's session is faulted, and its link is closed.
     fn fault(
         &mut self,
         alloc: Global,
@@ -182,7 +182,7 @@ impl<S: BuildHasher + Drop> Parts<S> {
     }
 }
 
-/// The fault of a port whose payload has this fault.
+/// The port's fault for a payload's fault.
 fn port_fault(fault: MarketFault) -> PortFault
     ensures { fault_number result ≡ market_fault_number fault }
 {

@@ -1,4 +1,4 @@
-//! The parts are put back to how they were settled.
+//! Settling the parts, and putting them back.
 
 ghost use Rattle.std.specs.Prelude.{◌≡◌};
 ghost use Rattle.gate_core.specs.State.{parts_now, parts_settled};

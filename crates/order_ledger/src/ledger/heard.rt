@@ -23,7 +23,7 @@ impl<S: BuildHasher + Drop> OrderLedger<S> {
 
     /// Steps a payload that a market port's session gave, by what it is decoded as.
     ///
-    /// What the market says of an order changes it and is told to its client, in order. Any fault leaves the ledger
+    /// What the market says of an order changes it and is reported to its client, in order. Any fault leaves the ledger
     /// as it was. The faults, the first that holds: `OutsideProfile` (a type that isn't known), `Undecodable`
     /// (another length than its type's, a field outside its set, or no byte at all), `UnknownToken` (no order of this
     /// port has it), `NotLawful` (it doesn't fit how the order stands).

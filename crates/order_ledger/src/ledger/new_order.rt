@@ -1,4 +1,4 @@
-//! A new order: what comes of it is put into the table.
+//! New orders: their results are put into the table.
 
 ghost use Rattle.std.specs.Prelude.{◌≡◌, ◌≤◌, ◌+◌, ◌++◌, ◌∷◌, [], length, IfOk, OnErr};
 ghost use Rattle.fix_types.specs.NewOrder.{new_order_fields};

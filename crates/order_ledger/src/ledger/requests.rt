@@ -1,4 +1,4 @@
-//! Cancels and replaces: what comes of one is put into the table.
+//! Cancels and replaces: their results are put into the table.
 
 ghost use Rattle.std.specs.Prelude.{◌≡◌, ◌≤◌, ◌+◌, ◌++◌, ◌∷◌, [], length, IfOk, OnErr};
 ghost use Rattle.fix_types.specs.CancelRequest.{cancel_request_fields};
