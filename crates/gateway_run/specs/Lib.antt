@@ -1,5 +1,6 @@
 pub mod Openers
 pub mod Own
+pub mod Stopped
 pub mod Told
 pub use Rattle.gate_law.specs.Holds
 pub use Rattle.audit_lines.specs.gate_audit.gate_journal.Kept
