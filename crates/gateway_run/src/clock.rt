@@ -2,8 +2,10 @@
 
 use crate::counted::ClientCounts;
 use crate::memory_watch::MemoryWatch;
+use crate::sync_timer::SyncTimer;
 use desk_gates::{DeskName, Shared};
 use gate_serving::Clock;
+use host_log::LaterSync;
 use link_sockets::SystemClock;
 use status_board::StatusBoard;
 use std::alloc::Global;
@@ -29,8 +31,8 @@ fn pause() -> Duration {
 
 /// The system's time, which never goes back, and pauses of a millisecond. That of the worker that has time pass pauses
 /// between two rounds of ticks, and meanwhile has what may wait written, and rounds made that others left, each
-/// millisecond. Once a second it puts how all stand onto the board. It also watches the clients, and ends the day where
-/// they are left alone: where a thread could not be had, say.
+/// millisecond. Once a second it puts how all stand onto the board. It has a journal synced whose syncs are left for
+/// later, and watches the clients: it ends the day where they are left alone, where a thread could not be had, say.
 #[derive(Drop)]
 pub(crate) struct RunClock<'a, K: DeskName, R> {
     clock: SystemClock<'a, R>,
@@ -47,7 +49,7 @@ impl<'a, K: DeskName, R: Wait + time::Clock + Eprint> RunClock<'a, K, R> {
     }
 
     /// Of the worker that has time pass for this desk: once these clients have been left alone for a hundred pauses
-    /// `is_over` is set, and how all stand goes onto this board. Takes no memory.
+    /// `is_over` is set, also once the journal is lost, and how all stand goes onto this board. Takes no memory.
     pub(crate) fn watching(
         rt: &'a R,
         alloc: Global,
@@ -55,6 +57,7 @@ impl<'a, K: DeskName, R: Wait + time::Clock + Eprint> RunClock<'a, K, R> {
         counts: &'a ClientCounts,
         is_over: &'a AtomicBool,
         board: &'a StatusBoard,
+        syncs: Option<SyncTimer<LaterSync>>,
     ) -> RunClock<'a, K, R> {
         RunClock {
             clock: SystemClock::new(rt, pause()),
@@ -68,6 +71,7 @@ impl<'a, K: DeskName, R: Wait + time::Clock + Eprint> RunClock<'a, K, R> {
                 idle: 0,
                 memory: MemoryWatch::new(rt),
                 next_status: 0,
+                syncs,
             }),
         }
     }
@@ -86,7 +90,7 @@ impl<'a, K: DeskName, R: Wait + time::Clock + Eprint> Clock for RunClock<'a, K, 
     }
 }
 
-/// Who looks for what waits to be written, whether clients are left alone, and whether memory is refused.
+/// Who looks for what waits to be written or synced, whether clients are left alone, and whether memory is refused.
 #[derive(Drop)]
 struct Watch<'a, K: DeskName, R> {
     rt: &'a R,
@@ -100,6 +104,8 @@ struct Watch<'a, K: DeskName, R> {
     memory: MemoryWatch<'a, R>,
     /// When the next status goes onto the board, by the clock.
     next_status: u64,
+    /// What has the journal synced, where that is left for later.
+    syncs: Option<SyncTimer<LaterSync>>,
 }
 
 impl<'a, K: DeskName, R: Wait + time::Clock + Eprint> Watch<'a, K, R> {
@@ -111,6 +117,7 @@ impl<'a, K: DeskName, R: Wait + time::Clock + Eprint> Watch<'a, K, R> {
             self.shared.ring_waiting(self.rt);
             self.shared.turns_wanted(self.alloc);
             self.show(clock.now_ms());
+            self.sync(clock.now_ms());
             if clock.now_ms() >= end {
                 break;
             }
@@ -135,6 +142,16 @@ impl<'a, K: DeskName, R: Wait + time::Clock + Eprint> Watch<'a, K, R> {
         };
         if is_done {
             self.next_status = now.saturating_add(BETWEEN_STATUSES);
+        }
+    }
+
+    /// Has the journal synced, where that is due, and ends the day where it failed: its file takes nothing any more, so
+    /// nobody is told anything.
+    fn sync(&mut self, now: u64) {
+        if let Some(syncs) = &mut self.syncs {
+            if syncs.look(now) {
+                self.is_over.store(true, Ordering::SeqCst);
+            }
         }
     }
 

@@ -3,10 +3,12 @@
 ghost use Rattle.std.specs.Prelude.{◌≡◌, length};
 
 use crate::fault::RunFault;
+use crate::sync_timer::SyncTimer;
 use audit_lines::History;
 use desk_gates::{DayLog, DeskName, HostFile, Inlet, Outlet, Shared, ToldOutlets};
 use gate_events::Event;
 use gate_serving::Clock as _;
+use host_log::LaterSync;
 use link_sockets::SystemClock;
 use open_links::open_links;
 use std::alloc::Global;
@@ -22,6 +24,16 @@ const MOST_LISTS: u32 = 4_096;
 pub struct DayJournal {
     pub file: HostFile,
     pub day: History,
+    /// What has the file synced, where the file leaves that for later; without it nothing does.
+    pub syncs: Option<SyncTimer<LaterSync>>,
+}
+
+/// What has a journal synced later, taken out of it.
+pub(crate) fn take_syncs(journal: &mut Option<DayJournal>) -> Option<SyncTimer<LaterSync>> {
+    match journal {
+        Some(journal) => journal.syncs.take(),
+        None => None,
+    }
 }
 
 /// Steps the events of a journal's day again by a desk that was opened just now, compares what comes of them, has the
@@ -39,7 +51,7 @@ pub(crate) fn go_on<K: DeskName, R: Wait + Clock>(
 ) -> Result<(), RunFault>
     ensures { length inlets.new.items ≡ length inlets.old.items }
 {
-    let Some(DayJournal { file, day }) = journal else {
+    let Some(DayJournal { file, day, .. }) = journal else {
         return Ok(());
     };
     let events = day.events(alloc)?;

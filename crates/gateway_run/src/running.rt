@@ -10,12 +10,14 @@ use crate::day::Day;
 use crate::ends::{Ends, RunPlan, ends_of};
 use crate::fault::RunFault;
 use crate::lines::{Count, Left, pens_of, ticks_of};
-use crate::resuming::{DayJournal, go_on};
+use crate::resuming::{DayJournal, go_on, take_syncs};
+use crate::sync_timer::SyncTimer;
 use audit_lines::Settings;
 use desk_gates::{
     Closed, DeskName, Finished, Inlet, OutletEnd, OutletPen, Parts, Prompt, Shared, open_desk,
 };
 use gate_serving::{Closer, Opener, serve};
+use host_log::LaterSync;
 use status_board::StatusBoard;
 use std::alloc::{AllocError, Global};
 use std::hash::RandomState;
@@ -112,6 +114,8 @@ where
     requires clock { 0 < length parts.inlets }
 {
     let (shared, mut inlets, mut outlets) = open_desk::<K, RandomState>(alloc, parts)?;
+    let mut journal = journal;
+    let syncs = take_syncs(&mut journal);
     go_on(rt, alloc, &shared, &mut inlets, &mut outlets, journal)?;
     let counts = ClientCounts::of(plan.clients.len().min(usize::from(count.clients)) as u32);
     let pens = pens_of::<A::Writer, K, R>(rt, alloc, &shared, outlets, plan.rules.tells_frames)?;
@@ -126,6 +130,7 @@ where
         plan,
         is_over,
         board,
+        syncs,
     )?;
     left.end_outlets(pens)?;
     let closed = close_desk(rt, alloc, shared, left.finished)?;
@@ -164,7 +169,7 @@ fn close_desk<K: DeskName, R: Clock>(
 }
 
 /// Serves the ends of a desk, the last inlet being the clock's, until the clients' links have been served, and ends
-/// them. Time passes in the calling thread.
+/// them. Time passes in the calling thread, which has the journal synced where that is left for later.
 fn serve_desk<'p, 'a, K, R, A, C, G>(
     rt: &'a R,
     alloc: Global,
@@ -176,6 +181,7 @@ fn serve_desk<'p, 'a, K, R, A, C, G>(
     plan: RunPlan<A, C>,
     is_over: &'a AtomicBool,
     board: &'a StatusBoard,
+    syncs: Option<SyncTimer<LaterSync>>,
 ) -> Result<Left<K>, RunFault>
 where
     K: DeskName + Send + Sync,
@@ -202,7 +208,7 @@ where
     let ends = ends_of(rt, alloc, shared, inlets, pens, clients, ports, rules)?;
     let Ends { lines, .. } = ends;
     let ticks = ticks_of(
-        rt, alloc, shared, count, counts, is_over, board, clock, pens,
+        rt, alloc, shared, count, counts, is_over, board, clock, pens, syncs,
     );
     match serve(rt, alloc, lines, ticks) {
         Ok((lines, ticks)) => {
