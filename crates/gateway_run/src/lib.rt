@@ -31,4 +31,5 @@ pub use running::{run, run_shown};
 pub use settings_file::{SettingsFault, SettingsFile, read};
 pub use soup_session::PortFault;
 pub use status_board::StatusBoard;
+pub use sync_timer::SyncTimer;
 pub use telling::{Teller, Whose};
