@@ -18,41 +18,15 @@ use std::io::Write;
 use std::sync::Arc;
 use std::sync::atomic::{AtomicBool, Ordering};
 
-/// A file that is open to be added to, with what it has as it was noted.
+/// A file of the system, and when it is synced.
 #[derive(Drop)]
-pub struct HostFile {
+struct Handle {
     file: File,
-    noted: Noted,
-    /// One for each call that failed.
-    failures: Noted,
-    /// How many bytes it has.
-    size: u64,
-    /// How many of them are durable.
-    durable: u64,
     /// Whether a later sync failed, where syncing is left for later.
     later: Option<Arc<AtomicBool>>,
-    ghost counted: { size ≡ length noted.bytes },
-    ghost fewer: { durable ≤ size },
 }
 
-impl HostFile {
-    /// A file that has these bytes, all of them durable, which is trusted.
-    pub(crate) fn with(file: File, bytes: &[u8]) -> HostFile
-        ensures noted { result.noted.bytes ≡ bytes.now }
-        ensures durable { result.durable ≡ length bytes.now }
-    {
-        let mut noted = Noted::new();
-        noted.note(bytes);
-        HostFile {
-            file,
-            noted,
-            failures: Noted::new(),
-            size: bytes.len() as u64,
-            durable: bytes.len() as u64,
-            later: None,
-        }
-    }
-
+impl Handle {
     /// Whether a later sync failed.
     fn has_failed_later(&self) -> bool {
         match &self.later {
@@ -76,6 +50,39 @@ impl HostFile {
     }
 }
 
+/// A file that is open to be added to, with what it has as it was noted.
+#[derive(Drop)]
+pub struct HostFile {
+    handle: Handle,
+    noted: Noted,
+    /// One for each call that failed.
+    failures: Noted,
+    /// How many bytes it has.
+    size: u64,
+    /// How many of them are durable.
+    durable: u64,
+    ghost counted: { size ≡ length noted.bytes },
+    ghost fewer: { durable ≤ size },
+}
+
+impl HostFile {
+    /// A file that has these bytes, all of them durable, which is trusted.
+    pub(crate) fn with(file: File, bytes: &[u8]) -> HostFile
+        ensures noted { result.noted.bytes ≡ bytes.now }
+        ensures durable { result.durable ≡ length bytes.now }
+    {
+        let mut noted = Noted::new();
+        noted.note(bytes);
+        HostFile {
+            handle: Handle { file, later: None },
+            noted,
+            failures: Noted::new(),
+            size: bytes.len() as u64,
+            durable: bytes.len() as u64,
+        }
+    }
+}
+
 impl HostFile {
     ghost use Rattle.std.specs.Prelude.{IfOk};
     ghost use Rattle.host_log.specs.Whole.{IsSameFile};
@@ -86,7 +93,7 @@ impl HostFile {
     pub fn synced_later(self, alloc: Global) -> Result<(HostFile, LaterSync), OpenFault>
         ensures { IfOk result (λ both. IsSameFile self both.0) }
     {
-        let other = match self.file.try_clone() {
+        let other = match self.handle.file.try_clone() {
             Ok(other) => other,
             Err(error) => return Err(fault_of(&error)),
         };
@@ -104,7 +111,7 @@ impl HostFile {
         ensures { IsSameFile self result }
     {
         let mut file = self;
-        file.later = Some(has_failed);
+        file.handle.later = Some(has_failed);
         file
     }
 }
@@ -117,7 +124,7 @@ impl LogFile for HostFile {
     ghost faults = { λ f. length f.failures.bytes };
 
     fn append(&mut self, bytes: &[u8]) -> Result<(), WriteFault> {
-        if self.has_failed_later() {
+        if self.handle.has_failed_later() {
             self.failures.note(&[1]);
             return Err(WriteFault);
         }
@@ -127,7 +134,7 @@ impl LogFile for HostFile {
         };
         self.noted.note(bytes);
         self.size = size;
-        match self.file.write_all(bytes) {
+        match self.handle.file.write_all(bytes) {
             Ok(()) => Ok(()),
             Err(_) => {
                 self.failures.note(&[1]);
@@ -137,7 +144,7 @@ impl LogFile for HostFile {
     }
 
     fn sync(&mut self) -> Result<(), WriteFault> {
-        match self.written() {
+        match self.handle.written() {
             Ok(()) => {
                 self.durable = self.size;
                 Ok(())
