@@ -15,7 +15,10 @@ pub(crate) fn journal_asked(
     said: Option<&str>,
 ) -> Result<Option<DayJournal>, ExitCode> {
     let Some(syncs) = syncs_of(said) else {
-        return Err(refused(rt, "--sync is each, never, or milliseconds from 1ms to 60000ms"));
+        return Err(refused(
+            rt,
+            "--sync is each, never, or milliseconds from 1ms to 60000ms",
+        ));
     };
     match path {
         Some(path) => Ok(Some(journal_at(rt, path, syncs)?)),

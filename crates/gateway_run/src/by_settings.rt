@@ -67,7 +67,16 @@ where
     let is_over = AtomicBool::new(true);
     let plan = plan_of(rt, alloc, &[], &[], 0, &is_over)?;
     let board = StatusBoard::new();
-    let day = run_shown(rt, alloc, hasher, settings, Some(journal), plan, &is_over, &board)?;
+    let day = run_shown(
+        rt,
+        alloc,
+        hasher,
+        settings,
+        Some(journal),
+        plan,
+        &is_over,
+        &board,
+    )?;
     with_nobody_up(alloc, day)
 }
 
