@@ -50,7 +50,12 @@ fn the_day_of_a_script_so_far(rt: HostRuntime) -> Result<(), Fail> {
     let goes_on = "the day goes on: its file has no end\n";
     is_audited(&rt, rt.alloc(), front_of(file, whole), goes_on)?;
     let torn = "the day goes on: its file ends with 5 bytes of a write that was cut short\n";
-    is_audited(&rt, rt.alloc(), front_of(file, whole.saturating_add(5)), torn)
+    is_audited(
+        &rt,
+        rt.alloc(),
+        front_of(file, whole.saturating_add(5)),
+        torn,
+    )
 }
 
 /// So many bytes of a file, or all.
