@@ -94,12 +94,13 @@ where
 }
 
 /// Ticks for so many clients and ports through the clock's inlet, where they are due, until `is_over` is set, and how
-/// all stand onto this board. None through another's.
+/// all stand onto this board; of each client `ports_of` has its port. None through another's.
 pub(crate) fn ticks_of<'p, 'a, W: Prompt + Drop, G: OutletEnd + Drop, K, R>(
     rt: &'a R,
     alloc: Global,
     shared: &'a Shared<K, RandomState>,
     count: Count,
+    ports_of: &'a [u16],
     counts: &'a ClientCounts,
     is_over: &'a AtomicBool,
     board: &'a StatusBoard,
@@ -121,7 +122,7 @@ where
             ports,
             is_over,
             gate,
-            clock: RunClock::watching(rt, alloc, shared, counts, is_over, board),
+            clock: RunClock::watching(rt, alloc, shared, counts, ports_of, is_over, board),
         });
     }
     None
