@@ -26,6 +26,7 @@ use std::time::{Clock, Duration};
 use std::{env, fs};
 use stderr_queue::{LineQueue, Queued, start_writer};
 
+mod demo_served;
 mod journal;
 #[cfg(test)]
 mod missing_files;
@@ -34,6 +35,7 @@ mod served;
 #[cfg(test)]
 mod world_numbers;
 
+use demo_served::{asked_demo, serve_demo};
 use journal::journal_asked;
 use played::{asked_shape, play_world};
 use served::{asked_end, asked_serve, end_of_day, end_served, serve_until_told};
@@ -100,6 +102,10 @@ fn main(rt: HostRuntime) -> ExitCode {
             Err(status) => status,
         },
         Ok(Some(Asked::Demo)) => demonstrate(&rt, rt.alloc(), &mut rt.stderr()),
+        Ok(Some(Asked::ServedDemo)) => match asked_demo(&rt) {
+            Ok(demo) => serve_demo(&rt, rt.alloc(), demo, &mut rt.stderr()),
+            Err(status) => status,
+        },
         Ok(None) => refused(
             &rt,
             "an audit is of --script FILE, or of --journal FILE with --settings FILE",

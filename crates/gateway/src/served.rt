@@ -32,6 +32,23 @@ pub(crate) struct AskedServe<'a> {
     path: Option<&'a str>,
 }
 
+impl<'a> AskedServe<'a> {
+    /// By these settings and listeners, with no journal. Takes no memory.
+    pub(crate) fn without_journal(
+        file: SettingsFile,
+        operator: OperatorSettings,
+        bound: Bound,
+    ) -> AskedServe<'a> {
+        AskedServe {
+            file,
+            operator,
+            bound,
+            journal: None,
+            path: None,
+        }
+    }
+}
+
 /// What a settings file says, of the gateway and of its operator, or the status where it is refused.
 fn all_settings_at(
     rt: &HostRuntime,

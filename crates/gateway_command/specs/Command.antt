@@ -1,7 +1,8 @@
 -- The command line of `gateway`: `audit --script FILE` or `audit --journal FILE --settings FILE [--so-far]`, `journal
 -- --script FILE`, `run --settings FILE [--links N] [--journal FILE] [--sync WHEN]`, `serve --settings FILE [--journal
 -- FILE] [--sync WHEN]`, `end --settings FILE [--now] [--journal FILE]`, `export --journal FILE [--format FORMAT]`,
--- `demo`, `world --seed N --steps K [--clients C] [--ports P]`, and nothing else but a call for help or `--version`.
+-- `demo [--serve]`, `world --seed N --steps K [--clients C] [--ports P]`, and nothing else but a call for help or
+-- `--version`.
 use Rattle.std.specs.Prelude.{ℕ, Bool, true, false, List, Option, Some, None, codes, if◌then◌else◌, option_and_then}
 use Rattle.std.specs.Prelude.{option_map, nat_le, ◌&&◌, ◌==◌, ◌-◌, length, not, take, drop}
 use Rattle.std.specs.Char.{is_ascii_digit}
@@ -74,9 +75,9 @@ abbrev pub exports : App
 exports =
     with_rule (with_rule (new_app (codes "export")) (required_rule (codes "journal"))) (value_rule (codes "format"))
 
--- `demo`
+-- `demo [--serve]`
 abbrev pub demo : App
-demo = new_app (codes "demo")
+demo = with_rule (new_app (codes "demo")) (flag_rule (codes "serve"))
 
 -- `world --seed N --steps K [--clients C] [--ports P]`
 abbrev pub world : App
@@ -120,8 +121,8 @@ gateway_faults words = fault_of gateway words
 -- file, be it over alone or so far; the day of a script's file as a journal; a gateway by the settings in a file, with so
 -- many links, or until it is told to end, and a file for its journal, which is synced at such moments; the end of the
 -- gateway that is served by the settings in a file, at once or not; the end of a stopped day in a journal's file, by the
--- settings in a file; the messages of a journal's file, in a format; the demonstration; or the closed world of a seed,
--- with so many steps, clients and ports
+-- settings in a file; the messages of a journal's file, in a format; the demonstration, or one that is served until it
+-- is told to end; or the closed world of a seed, with so many steps, clients and ports
 pub data Asking : Type 0 where
   Audits : (script : Text) → Asking
   AuditsDay : (journal : Text) (settings : Text) (so_far : Bool) → Asking
@@ -132,6 +133,7 @@ pub data Asking : Type 0 where
   EndsDay : (journal : Text) (settings : Text) → Asking
   Exports : (journal : Text) (format : Option Text) → Asking
   Demonstrates : Asking
+  ServesDemonstration : Asking
   Plays : (seed steps : Text) (clients ports : Option Text) → Asking
 
 -- a flag is given
@@ -195,6 +197,9 @@ end_in (Some settings) rows = end_by settings (first_of (codes "journal") rows) 
 abbrev pub end_asked : List Row → Option Asking
 end_asked rows = end_in (first_of (codes "settings") rows) rows
 
+abbrev pub demo_asked : List Row → Option Asking
+demo_asked rows = if is_said (first_of (codes "serve") rows) then Some ServesDemonstration else Some Demonstrates
+
 abbrev pub export_asked : List Row → Option Asking
 export_asked rows =
     option_map (λ (file : Text). Exports file (first_of (codes "format") rows)) (first_of (codes "journal") rows)
@@ -218,7 +223,7 @@ asking_of name rows =
     else if bytes_eq name (codes "run") then run_asked rows
     else if bytes_eq name (codes "serve") then serve_asked rows
     else if bytes_eq name (codes "end") then end_asked rows
-    else if bytes_eq name (codes "demo") then Some Demonstrates
+    else if bytes_eq name (codes "demo") then demo_asked rows
     else if bytes_eq name (codes "export") then export_asked rows
     else if bytes_eq name (codes "world") then world_asked rows
     else None

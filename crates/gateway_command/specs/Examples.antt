@@ -5,8 +5,8 @@ use Rattle.clap.specs.declared.error.kind.ErrorKind.TheVariants as kind
 use Rattle.clap.proofs.OnLiterals.{clap_on_literals}
 use Rattle.gateway_command.specs.declared.asking.Syncs.TheVariants.{Each, Every, Never}
 use Rattle.gateway_command.specs.Command.{Asking, Audits, AuditsDay, Demonstrates, Ends, EndsDay, Keeps, Plays, Runs}
-use Rattle.gateway_command.specs.Command.{Serves, asking_of, asked_of, gateway_found, gateway_faults, links_of}
-use Rattle.gateway_command.specs.Command.{number_between, syncs_of}
+use Rattle.gateway_command.specs.Command.{Serves, ServesDemonstration, asking_of, asked_of, gateway_found}
+use Rattle.gateway_command.specs.Command.{gateway_faults, links_of, number_between, syncs_of}
 
 abbrev line : List Text → List Text
 line words = codes "gateway" ∷ words
@@ -133,6 +133,10 @@ a_demonstration : Asks (codes "demo" ∷ []) Demonstrates
 unfolding clap_on_literals gateway_found gateway_faults asking_of
 a_demonstration = (refl, refl)
 
+a_demonstration_until_it_is_told_to_end : Asks (codes "demo" ∷ codes "--serve" ∷ []) ServesDemonstration
+unfolding clap_on_literals gateway_found gateway_faults asking_of
+a_demonstration_until_it_is_told_to_end = (refl, refl)
+
 a_world : Asks (codes "world" ∷ codes "--seed" ∷ codes "7" ∷ codes "--steps" ∷ codes "300" ∷ [])
     (Plays (codes "7") (codes "300") None None)
 unfolding clap_on_literals gateway_found gateway_faults asking_of
@@ -192,6 +196,11 @@ another_option = refl
 a_demonstration_of_a_file : Refuses (codes "demo" ∷ codes "a.toml" ∷ []) (kind.UnknownArgument ∷ [])
 unfolding clap_on_literals gateway_faults
 a_demonstration_of_a_file = refl
+
+settings_of_a_demonstration : Refuses (codes "demo" ∷ codes "--settings" ∷ codes "a.toml" ∷ [])
+    (kind.UnknownArgument ∷ [])
+unfolding clap_on_literals gateway_faults
+settings_of_a_demonstration = refl
 
 twice : Refuses (codes "audit" ∷ codes "--script" ∷ codes "a" ∷ codes "--script" ∷ codes "b" ∷ [])
     (kind.ArgumentConflict ∷ [])

@@ -1,7 +1,7 @@
 -- What a command line asks for, as contracts see it.
 use Rattle.std.specs.Prelude.{option_map}
 use Rattle.gateway_command.specs.Command.{Asking, Audits, AuditsDay, Demonstrates, Ends, EndsDay, Exports, Keeps}
-use Rattle.gateway_command.specs.Command.{Plays, Runs, Serves}
+use Rattle.gateway_command.specs.Command.{Plays, Runs, Serves, ServesDemonstration}
 use Rattle.gateway_command.specs.declared.asking.Asked.{Asked}
 use Rattle.gateway_command.specs.declared.asking.Asked.TheVariants as asked
 
@@ -17,5 +17,6 @@ asked_seen (asked.End settings at_once) = Ends settings.now at_once
 asked_seen (asked.EndDay journal settings) = EndsDay journal.now settings.now
 asked_seen (asked.Export journal format) = Exports journal.now (option_map (λ text. text.now) format)
 asked_seen asked.Demo = Demonstrates
+asked_seen asked.ServedDemo = ServesDemonstration
 asked_seen (asked.World seed steps clients ports) = Plays seed.now steps.now (option_map (λ text. text.now) clients)
     (option_map (λ text. text.now) ports)

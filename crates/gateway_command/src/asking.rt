@@ -64,6 +64,8 @@ pub enum Asked<'a> {
     },
     /// The demonstration.
     Demo,
+    /// The demonstration, until it is told to end.
+    ServedDemo,
     /// The closed world of a seed.
     World {
         /// The seed, as it was said.

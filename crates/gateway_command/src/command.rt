@@ -63,7 +63,7 @@ fn asked_by<'a>(name: &str, found: &ArgMatches<'a>) -> Option<Asked<'a>>
         "run" => run_asked(found),
         "serve" => serve_asked(found),
         "end" => end_asked(found),
-        "demo" => Some(Asked::Demo),
+        "demo" => demo_asked(found),
         "export" => export_asked(found),
         "world" => world_asked(found),
         _ => None,
@@ -213,6 +213,18 @@ fn export_asked<'a>(found: &ArgMatches<'a>) -> Option<Asked<'a>>
             format: value_of(found, "format"),
         }),
         None => None,
+    }
+}
+
+/// What `demo` asks for.
+#[tactic(auto, unfolding(crate::specs::Seen::asked_seen))]
+fn demo_asked<'a>(found: &ArgMatches<'a>) -> Option<Asked<'a>>
+    ensures { option_map asked_seen result ≡ spec.demo_asked (rows_of (found_of found.now)) }
+{
+    if is_said(found, "serve") {
+        Some(Asked::ServedDemo)
+    } else {
+        Some(Asked::Demo)
     }
 }
 
@@ -450,14 +462,20 @@ fn export<'a>(alloc: Global) -> Result<Command<'a>, AllocError>
     with_option(with_journal, format)
 }
 
-/// `demo`.
-fn demo<'a>(alloc: Global) -> Command<'a>
-    ensures app { app_of result ≡ spec.demo }
-    ensures own { (fields_of result).has_globals ≡ false }
+/// `demo [--serve]`.
+fn demo<'a>(alloc: Global) -> Result<Command<'a>, AllocError>
+    ensures app { IfOk result (λ command. app_of command ≡ spec.demo) }
+    ensures own { IfOk result (λ command. (fields_of command).has_globals ≡ false) }
 {
-    Command::new(alloc, "demo")
+    let alone = Command::new(alloc, "demo")
         .about("Shows a gateway between two clients and a simulated market, on loopback")
-        .after_help(DEMO)
+        .after_help(DEMO);
+    let serve = flag(
+        alloc,
+        "serve",
+        "Goes on until it is told to end, with a page to look at",
+    );
+    with_option(alone, serve)
 }
 
 /// `world --seed N --steps K [--clients C] [--ports P]`.
@@ -538,6 +556,19 @@ fn with_end<'a>(alloc: Global, command: Command<'a>) -> Result<Command<'a>, Allo
     }
 }
 
+/// A command with `demo` more.
+fn with_demo<'a>(alloc: Global, command: Command<'a>) -> Result<Command<'a>, AllocError>
+    ensures { IfOk result (λ wider. app_of wider ≡ spec.with_command (app_of command.entry) spec.demo) }
+{
+    match demo(alloc) {
+        Ok(demo) => with_command(command, demo),
+        Err(error) => {
+            drop(command);
+            Err(error)
+        }
+    }
+}
+
 /// A command with `audit` more.
 fn with_audit<'a>(alloc: Global, command: Command<'a>) -> Result<Command<'a>, AllocError>
     ensures { IfOk result (λ wider. app_of wider ≡ spec.with_command (app_of command.entry) spec.audit) }
@@ -602,7 +633,7 @@ fn gateway<'a>(alloc: Global) -> Result<Command<'a>, AllocError>
     let with_run = with_run(alloc, alone)?;
     let with_serve = with_serve(alloc, with_run)?;
     let with_end = with_end(alloc, with_serve)?;
-    let with_demo = with_command(with_end, demo(alloc))?;
+    let with_demo = with_demo(alloc, with_end)?;
     let with_audit = with_audit(alloc, with_demo)?;
     let with_export = with_export(alloc, with_audit)?;
     let with_journal = with_journal(alloc, with_export)?;

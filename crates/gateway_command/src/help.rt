@@ -140,7 +140,17 @@ Two clients send three orders each, a simulated market takes and fills them, all
   orders 6 agree 6
 
 The status is 0 where all orders agree, 1 where one doesn't, and where a client waits ten seconds for an answer, with
-demo: not finished on standard error.";
+demo: not finished on standard error.
+
+With --serve the clients and the market go on trading, slowly, until it is told to end. It prints its settings, with the
+address of the page in front; in a file they are what gateway end is given:
+
+  $ gateway demo --serve | tee demo.toml
+  # the page: http://127.0.0.1:41571/
+  ..
+  $ gateway end --settings demo.toml
+
+Behind them stands the audit then. Ctrl-C ends it at once, without one.";
 
 /// Of `gateway world`.
 pub(crate) const WORLD: &str = "\

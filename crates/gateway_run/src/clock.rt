@@ -2,6 +2,7 @@
 
 use crate::counted::ClientCounts;
 use crate::memory_watch::MemoryWatch;
+use crate::order_watch::OrderWatch;
 use crate::sync_timer::SyncTimer;
 use desk_gates::{DeskName, Shared};
 use gate_serving::Clock;
@@ -49,12 +50,14 @@ impl<'a, K: DeskName, R: Wait + time::Clock + Eprint> RunClock<'a, K, R> {
     }
 
     /// Of the worker that has time pass for this desk: once these clients have been left alone for a hundred pauses
-    /// `is_over` is set, also once the journal is lost, and how all stand goes onto this board. Takes no memory.
+    /// `is_over` is set, also once the journal is lost, and how all stand goes onto this board. It is told of orders
+    /// that wait at ports that aren't up; of each client `ports_of` has its port. Takes no memory.
     pub(crate) fn watching(
         rt: &'a R,
         alloc: Global,
         shared: &'a Shared<K, RandomState>,
         counts: &'a ClientCounts,
+        ports_of: &'a [u16],
         is_over: &'a AtomicBool,
         board: &'a StatusBoard,
         syncs: Option<SyncTimer<LaterSync>>,
@@ -71,6 +74,7 @@ impl<'a, K: DeskName, R: Wait + time::Clock + Eprint> RunClock<'a, K, R> {
                 idle: 0,
                 memory: MemoryWatch::new(rt),
                 next_status: 0,
+                orders: OrderWatch::new(rt, ports_of),
                 syncs,
             }),
         }
@@ -104,6 +108,7 @@ struct Watch<'a, K: DeskName, R> {
     memory: MemoryWatch<'a, R>,
     /// When the next status goes onto the board, by the clock.
     next_status: u64,
+    orders: OrderWatch<'a, R>,
     /// What has the journal synced, where that is left for later.
     syncs: Option<SyncTimer<LaterSync>>,
 }
@@ -130,14 +135,18 @@ impl<'a, K: DeskName, R: Wait + time::Clock + Eprint> Watch<'a, K, R> {
         self.look();
     }
 
-    /// Puts how all stand onto the board, where a second has passed since it last was. While somebody reads the board it
-    /// is tried again with the next pause; where memory is refused, a second later.
+    /// Puts how all stand onto the board, where a second has passed since it last was, and has it told of orders that
+    /// wait. While somebody reads the board it is tried again with the next pause; where memory is refused, a second
+    /// later.
     fn show(&mut self, now: u64) {
         if now < self.next_status {
             return;
         }
         let is_done = match self.shared.status(self.rt, self.alloc) {
-            Ok(status) => self.board.put(status, now),
+            Ok(status) => {
+                self.orders.look(&status, now);
+                self.board.put(status, now)
+            }
             Err(_) => true,
         };
         if is_done {

@@ -11,6 +11,7 @@ mod ends;
 mod fault;
 mod lines;
 mod memory_watch;
+mod order_watch;
 mod port_faults;
 mod resuming;
 mod run_gate;

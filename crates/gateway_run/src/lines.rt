@@ -96,12 +96,13 @@ where
 }
 
 /// Ticks for so many clients and ports through the clock's inlet, where they are due, until `is_over` is set, how all
-/// stand onto this board, and a journal's later syncs. None through another's.
+/// stand onto this board, and a journal's later syncs; of each client `ports_of` has its port. None through another's.
 pub(crate) fn ticks_of<'p, 'a, W: Prompt + Drop, G: OutletEnd + Drop, K, R>(
     rt: &'a R,
     alloc: Global,
     shared: &'a Shared<K, RandomState>,
     count: Count,
+    ports_of: &'a [u16],
     counts: &'a ClientCounts,
     is_over: &'a AtomicBool,
     board: &'a StatusBoard,
@@ -124,7 +125,7 @@ where
             ports,
             is_over,
             gate,
-            clock: RunClock::watching(rt, alloc, shared, counts, is_over, board, syncs),
+            clock: RunClock::watching(rt, alloc, shared, counts, ports_of, is_over, board, syncs),
         });
     }
     None

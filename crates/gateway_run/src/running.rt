@@ -11,6 +11,7 @@ use crate::day_journal::DayJournal;
 use crate::ends::{Ends, RunPlan, ends_of};
 use crate::fault::RunFault;
 use crate::lines::{Count, Left, pens_of, ticks_of};
+use crate::order_watch::ports_of_clients;
 use crate::resuming::{go_on, take_syncs};
 use crate::sync_timer::SyncTimer;
 use audit_lines::Settings;
@@ -88,8 +89,12 @@ where
         clients: settings.clients().len() as u16,
         ports: settings.ports().len() as u16,
     };
+    let ports_of = ports_of_clients(alloc, &settings)?;
     let parts = Parts::with_hasher(alloc, hasher, settings)?;
-    run_desk::<Brand, R, A, C>(rt, alloc, parts, journal, count, plan, is_over, board)
+    let ports_of = ports_of.as_slice();
+    run_desk::<Brand, R, A, C>(
+        rt, alloc, parts, journal, count, ports_of, plan, is_over, board,
+    )
 }
 
 /// Opens the desk of these parts, serves it and closes it.
@@ -99,6 +104,7 @@ fn run_desk<K, R, A, C>(
     parts: Parts<RandomState>,
     journal: Option<DayJournal>,
     count: Count,
+    ports_of: &[u16],
     plan: RunPlan<A, C>,
     is_over: &AtomicBool,
     board: &StatusBoard,
@@ -124,6 +130,7 @@ where
         rt,
         alloc,
         count,
+        ports_of,
         &shared,
         &counts,
         inlets,
@@ -175,6 +182,7 @@ fn serve_desk<'p, 'a, K, R, A, C, G>(
     rt: &'a R,
     alloc: Global,
     count: Count,
+    ports_of: &'a [u16],
     shared: &'a Shared<K, RandomState>,
     counts: &'a ClientCounts,
     inlets: Vec<Inlet<K>>,
@@ -209,7 +217,7 @@ where
     let ends = ends_of(rt, alloc, shared, inlets, pens, clients, ports, rules)?;
     let Ends { lines, .. } = ends;
     let ticks = ticks_of(
-        rt, alloc, shared, count, counts, is_over, board, clock, pens, syncs,
+        rt, alloc, shared, count, ports_of, counts, is_over, board, clock, pens, syncs,
     );
     match serve(rt, alloc, lines, ticks) {
         Ok((lines, ticks)) => {
