@@ -17,6 +17,7 @@ from .link import free_addresses, listener
 from .plan import CLOSING, HOSTILE, LEAVING, OVER, SETTLING, TRADING, planned
 from .refusing import Refusing
 from .server import PASSWORD, USER, Server
+from .stopping import Stopping
 
 FORK = multiprocessing.get_context("fork")
 EVENT = re.compile(r"\d{8}-\d\d:\d\d:\d\d\.\d{3} ([CP]\d+) "
@@ -26,6 +27,9 @@ SKIPPED = re.compile(r"\d{8}-\d\d:\d\d:\d\d\.\d{3} (C\d+) skipped (\d+) bytes")
 UNSHOWN = re.compile(r"\d{8}-\d\d:\d\d:\d\d\.\d{3} C\d+ sent a Reject, a ResendRequest or a Logout")
 # why a link's session is refused, and that events wait for memory
 WHY = re.compile(r"\d{8}-\d\d:\d\d:\d\d\.\d{3} ([CP])\d+ (Logon refused|login rejected): [ -~]+")
+# what the audit of a day that goes on tells beside its accounts, and how it ends
+GOES_ON = re.compile(rb"the day goes on: its file (has no end|ends with \d+ bytes of a write that was cut short)\n")
+ALL_AGREE = re.compile(rb"(.*\n)*orders (\d+) agree \2\n")
 MEMORY = re.compile(r"\d{8}-\d\d:\d\d:\d\d\.\d{3} gateway: (out of memory: events wait|memory is back after \d+\.\d s)")
 SETTLES, CLOSES, LEAVES = 90.0, 40.0, 60.0
 
@@ -66,6 +70,8 @@ class Day:
         self.complaints, self.processes = [], []
         self.wanted = [HOSTILE.get(it.hostile, b"") for it in self.plan.markets]
         self.refusing = Refusing(self.folder, options.refuse, self.plan.seed) if options.refuse else None
+        self.journal, self.settings = Path(self.folder, "journal"), Path(self.folder, "settings")
+        self.stopping = Stopping(self.folder, self.journal, self.plan.seed) if options.machine else None
 
     def run(self):
         """The report of the day."""
@@ -81,7 +87,7 @@ class Day:
     def start(self):
         markets = [self.start_market(i, plan) for i, plan in enumerate(self.plan.markets)]
         control, *addresses = free_addresses(len(self.plan.clients) + 1)
-        Path(self.folder, "settings").write_text(settings(self.plan, markets, addresses, control))
+        self.settings.write_text(settings(self.plan, markets, addresses, control))
         self.start_gateway()
         for i, (address, plan) in enumerate(zip(addresses, self.plan.clients)):
             may_fault = HOSTILE.get(self.plan.markets[plan.port].hostile, b"") != b""
@@ -102,21 +108,46 @@ class Day:
         self.processes.append(process)
 
     def start_gateway(self):
-        words = [self.options.gateway, "serve" if self.options.kill else "run"]
-        words += ["--settings", str(Path(self.folder, "settings")), "--journal", str(Path(self.folder, "journal"))]
-        words += [] if self.options.kill else ["--links", str(self.plan.links)]
-        more = self.refusing.environment() if self.refusing else {}
+        more = ["--sync", self.options.sync] if self.options.sync else []
+        if self.options.kill:
+            self.begin("serve", *more)
+        else:
+            self.begin("run", "--links", str(self.plan.links), *more)
+
+    def begin(self, *words):
+        """The gateway's process, by these words and the day's settings and journal."""
+        words = [self.options.gateway, *words, "--settings", str(self.settings), "--journal", str(self.journal)]
+        layers = [it.environment() for it in (self.refusing, self.stopping) if it]
+        more = {name: value for it in layers for name, value in it.items()}
+        if layers:
+            more["LD_PRELOAD"] = ":".join(it["LD_PRELOAD"] for it in layers)
         with open(Path(self.folder, "output"), "wb") as output, open(Path(self.folder, "errors"), "ab") as errors:
             self.gateway = subprocess.Popen(words, stdout=output, stderr=errors, env={**os.environ, **more})
         self.status, self.usage = None, None
 
-    def kill_gateway(self):
-        """The gateway is gone at once, and begun again with the same journal."""
+    def lose_gateway(self):
+        """The gateway is gone at once, or its machine stops."""
+        self.audit_so_far("runs")
         self.plan.killed.value += 1
         self.gateway.kill()
         self.gateway.wait()
+        if self.stopping:
+            self.stopping.stop()
         self.plan.killed.value += 1
+        self.audit_so_far("is killed")
+
+    def kill_gateway(self):
+        """The gateway is lost, and begun again with the same journal."""
+        self.lose_gateway()
         self.start_gateway()
+
+    def audit_so_far(self, when):
+        """The audit of the day so far: each order has both accounts the same at any moment."""
+        words = [self.options.gateway, "audit", "--so-far", "--journal", str(self.journal), "--settings", str(self.settings)]
+        ran = subprocess.run(words, capture_output=True)
+        if ran.returncode != 0 or not GOES_ON.fullmatch(ran.stderr) or not ALL_AGREE.fullmatch(ran.stdout):
+            self.complaints.append(f"seed {self.plan.seed}: the audit so far, as the gateway {when}: "
+                                   f"{ran.returncode} {ran.stderr[:200]!r} {ran.stdout[-200:]!r}")
 
     def trade(self, seconds):
         """So many seconds of traffic, in which the gateway is killed as often as is asked for."""
@@ -129,10 +160,15 @@ class Day:
         self.wait(begin + seconds - time.monotonic(), lambda: False)
 
     def end_gateway(self):
-        """A gateway that is served is told to end."""
-        if self.options.kill:
-            words = [self.options.gateway, "end", "--now", "--settings", str(Path(self.folder, "settings"))]
+        """A gateway that is served is told to end; or, one day in two, is lost, and its day ended by its journal."""
+        if not self.options.kill:
+            return
+        if self.plan.seed % 2 == 0:
+            words = [self.options.gateway, "end", "--now", "--settings", str(self.settings)]
             subprocess.run(words, capture_output=True)
+            return
+        self.lose_gateway()
+        self.begin("end")
 
     def poll(self):
         """The gateway's end, once it is there, with what it has used."""
@@ -227,8 +263,8 @@ class Day:
 
     def read_again(self, output):
         """The audit of the day's journal has to be the gateway's own."""
-        words = [self.options.gateway, "audit", "--journal", str(Path(self.folder, "journal"))]
-        ran = subprocess.run(words + ["--settings", str(Path(self.folder, "settings"))], capture_output=True)
+        words = [self.options.gateway, "audit", "--journal", str(self.journal), "--settings", str(self.settings)]
+        ran = subprocess.run(words, capture_output=True)
         if ran.returncode != 0 or ran.stdout != output or ran.stderr:
             yield f"seed {self.plan.seed}: the journal's audit is another: {ran.returncode} {ran.stderr[:200]!r}"
 
@@ -329,7 +365,9 @@ class Report:
             "client links lost": client["links cut"] + client["links that the gateway closed"],
             "port links cut": market["links cut"], "bytes of garbage": session["bytes of garbage"],
             "stalls": client["stalls"], "hostile ports": sum(it["said"] for it in self.markets),
-            "refused requests": refused})
+            "refused requests": refused,
+            "stops that lost bytes": self.day.stopping.losses if self.day.stopping else 0,
+            "bytes lost": self.day.stopping.lost if self.day.stopping else 0})
 
     def lines(self):
         plan, usage = self.day.plan, self.day.usage
@@ -355,6 +393,9 @@ class Report:
         yield f"  standard error: {show(self.events)}"
         if self.day.refusing:
             yield "  memory: refused {} of {} requests".format(*self.day.refusing.counted())
+        if self.day.stopping:
+            it = self.day.stopping
+            yield f"  machine: {it.stops} stops, {it.losses} of them lost {it.lost} bytes that weren't synced"
 
 
 def show(counts):
