@@ -11,6 +11,7 @@ import time
 from collections import Counter
 from pathlib import Path
 
+from . import operated
 from .client import CLOSED, LEFT, SETTLED, Client
 from .compare import compare
 from .link import free_addresses, listener
@@ -30,8 +31,15 @@ WHY = re.compile(r"\d{8}-\d\d:\d\d:\d\d\.\d{3} ([CP])\d+ (Logon refused|login re
 # what the audit of a day that goes on tells beside its accounts, and how it ends
 GOES_ON = re.compile(rb"the day goes on: its file (has no end|ends with \d+ bytes of a write that was cut short)\n")
 ALL_AGREE = re.compile(rb"(.*\n)*orders (\d+) agree \2\n")
+# what is told of a gateway that is served: links with their addresses, orders that wait, and its end
+UP = re.compile(r"\d{8}-\d\d:\d\d:\d\d\.\d{3} (C\d+) up from [0-9.:]+(, \d+ connects without a byte before)?")
+SERVED = [re.compile(it) for it in (
+    r"\d{8}-\d\d:\d\d:\d\d\.\d{3} P\d+ (up at [0-9.:]+|[0-9.:]+: [ -~]+; next try in \d+ s)",
+    r"\d{8}-\d\d:\d\d:\d\d\.\d{3} P\d+ \d+ orders wait, since \d\d:\d\d:\d\d",
+    r"gateway: the day ends: no further link is taken", r"gateway: journal: \S+ (goes on|ends) behind \d+ events",
+    r"gateway: journal: \d+ bytes of a write that was cut short are cut off")]
 MEMORY = re.compile(r"\d{8}-\d\d:\d\d:\d\d\.\d{3} gateway: (out of memory: events wait|memory is back after \d+\.\d s)")
-SETTLES, CLOSES, LEAVES = 90.0, 40.0, 60.0
+SETTLES, CLOSES, LEAVES, SHOWS = 90.0, 40.0, 60.0, 15.0
 
 
 def serve(path, made, *words):
@@ -72,6 +80,7 @@ class Day:
         self.refusing = Refusing(self.folder, options.refuse, self.plan.seed) if options.refuse else None
         self.journal, self.settings = Path(self.folder, "journal"), Path(self.folder, "settings")
         self.stopping = Stopping(self.folder, self.journal, self.plan.seed) if options.machine else None
+        self.is_served, self.shown = not options.run, None
 
     def run(self):
         """The report of the day."""
@@ -86,8 +95,8 @@ class Day:
 
     def start(self):
         markets = [self.start_market(i, plan) for i, plan in enumerate(self.plan.markets)]
-        control, *addresses = free_addresses(len(self.plan.clients) + 1)
-        self.settings.write_text(settings(self.plan, markets, addresses, control))
+        self.control, *addresses = free_addresses(len(self.plan.clients) + 1)
+        self.settings.write_text(settings(self.plan, markets, addresses, self.control))
         self.start_gateway()
         for i, (address, plan) in enumerate(zip(addresses, self.plan.clients)):
             may_fault = HOSTILE.get(self.plan.markets[plan.port].hostile, b"") != b""
@@ -109,7 +118,7 @@ class Day:
 
     def start_gateway(self):
         more = ["--sync", self.options.sync] if self.options.sync else []
-        if self.options.kill:
+        if self.is_served:
             self.begin("serve", *more)
         else:
             self.begin("run", "--links", str(self.plan.links), *more)
@@ -160,10 +169,15 @@ class Day:
         self.wait(begin + seconds - time.monotonic(), lambda: False)
 
     def end_gateway(self):
-        """A gateway that is served is told to end; or, one day in two, is lost, and its day ended by its journal."""
-        if not self.options.kill:
+        """What a gateway that is served shows is kept, and it is told to end; or, one day in two on which it is killed, it
+        is lost once more, and its day ended by its journal."""
+        if not self.is_served or self.poll():
             return
-        if self.plan.seed % 2 == 0:
+        try:
+            self.shown = operated.shown(self.control, SHOWS)
+        except (OSError, ValueError) as why:
+            self.complaints.append(f"seed {self.plan.seed}: the status can't be had: {why}")
+        if not self.options.kill or self.plan.seed % 2 == 0:
             words = [self.options.gateway, "end", "--now", "--settings", str(self.settings)]
             subprocess.run(words, capture_output=True)
             return
@@ -256,10 +270,21 @@ class Day:
             self.wanted = [HOSTILE.get(it["hostile"], b"") if it["said"] else b"" for it in markets]
             self.complaints += [f"seed {self.plan.seed}: {it}" for it in compare(clients, markets, output)]
             self.complaints += self.port_states(clients)
+            self.complaints += [f"seed {self.plan.seed}: {it}" for it in self.operated(clients, markets, output)]
         if self.status != 0:
             self.complaints.append(f"seed {self.plan.seed}: the gateway's status is {self.status}")
         self.complaints += self.read_again(output)
         return Report(self, clients, markets)
+
+    def operated(self, clients, markets, output):
+        """What is wrong of what the gateway shows and tells at the end, and of its journal's messages."""
+        if not self.is_served:
+            return
+        told = operated.last_lines(Path(self.folder, "errors").read_bytes())
+        rows = operated.journal_rows(self.options.gateway, Path(self.folder, "journal"))
+        yield from operated.compare_last_lines(clients, told)
+        yield from operated.compare_journal(clients, rows)
+        yield from operated.compare_shown(self.shown, clients, markets, self.wanted, output, told, rows)
 
     def read_again(self, output):
         """The audit of the day's journal has to be the gateway's own."""
@@ -285,7 +310,9 @@ class Day:
         """The lines on standard error by kind; another line is a complaint."""
         counts, ups, faults, skipped = Counter(), Counter(), Counter(), Counter()
         self.logouts = []
-        for line in Path(self.folder, "errors").read_text(errors="replace").splitlines():
+        errors = Path(self.folder, "errors").read_bytes()
+        last = set(operated.last_lines(errors).split(b"\n"))
+        for line in (it.decode("latin-1") for it in errors.split(b"\n") if it and it not in last):
             if self.refusing and UNSHOWN.fullmatch(line):
                 counts["C sent what isn't shown"] += 1
                 continue
@@ -299,7 +326,11 @@ class Day:
                 counts["C skipped"] += 1
                 skipped[skips[1], ups[skips[1]]] = int(skips[2])
                 continue
-            if self.options.kill and not EVENT.fullmatch(line):
+            if up := UP.fullmatch(line):
+                counts["C up"] += 1
+                ups[up[1]] += 1
+                continue
+            if self.is_served and any(it.fullmatch(line) for it in SERVED):
                 counts["of a gateway that is served"] += 1
                 continue
             found = EVENT.fullmatch(line)
@@ -316,7 +347,7 @@ class Day:
         if not self.options.kill:
             self.port_faults(faults)
         for name, count in ups.items():
-            if not self.options.kill and (count > self.plan.links or name[0] == "C" and count < self.plan.links):
+            if not self.is_served and (count > self.plan.links or name[0] == "C" and count < self.plan.links):
                 self.complaints.append(f"seed {self.plan.seed}: {name} had {count} links of {self.plan.links}")
         return counts
 
@@ -372,7 +403,8 @@ class Report:
     def lines(self):
         plan, usage = self.day.plan, self.day.usage
         hostile = "".join(it.hostile for it in plan.markets) or "none"
-        yield (f"seed {plan.seed}: {len(plan.clients)} clients, {len(plan.markets)} ports, {plan.links} links each, "
+        yield (f"seed {plan.seed}: {len(plan.clients)} clients, {len(plan.markets)} ports, {plan.links} links each"
+               f"{'' if self.day.is_served else ' and no more'}, "
                f"hostile {hostile}, {getattr(self.day, 'took', 0):.0f} s")
         yield f"  {show(self.totals())}"
         if usage:

@@ -3,7 +3,7 @@ use Rattle.std.proofs.Common.{◌≡◌, ◌<◌, ◌≤◌, ℕ, ◌+◌, ◌-�
 use Rattle.std.specs.Prelude.{bytes_eq, if◌then◌else◌}
 use Rattle.std.proofs.lemmas.List.{length-take, take-append-le, take_at}
 use Rattle.std.proofs.lemmas.Slice.Eq.{bytes_eq-Decides}
-use Rattle.gate_journal.specs.Kept.{Kept, kept_in}
+use Rattle.audit_lines.specs.gate_audit.gate_journal.Kept.{Kept, kept_in}
 use Rattle.journal_file.specs.Endings.{EndsBy}
 use Rattle.journal_file.specs.declared.ending.Ending.{Ending}
 use Rattle.journal_file.specs.declared.ending.Ending.TheVariants.{GoesOn, Over, Torn}
@@ -11,16 +11,15 @@ use Rattle.journal_file.specs.File.{before_page, form_of, sized_page, sized_page
 use Rattle.journal_pages.specs.Page.{page_name}
 use Rattle.journal_pages.specs.declared.version.Version.{Version}
 use Rattle.journal_pages.specs.declared.version.Version.TheVariants.{One, Two}
-use Rattle.journal_days.specs.Day.{day_fault, day_records, kept_as, version_of}
+use Rattle.audit_lines.specs.gate_audit.gate_journal.Day.{day_fault, day_records, kept_as, version_of}
 use Rattle.host_log.specs.Seen.{host_may_leave, host_seen}
 use Rattle.host_log.specs.Whole.{HasJust}
 use Rattle.host_log.specs.declared.host_file.HostFile.{HostFile}
-use Rattle.day_log.specs.Crash.{Only}
 use Rattle.turn_log.specs.Kept.{AreOf, HasAll}
 use Rattle.gateway_run.specs.Stopped.{EndsTorn, IsStopped}
 
 -- all that a file has which was opened so is durable
-all-durable : (bytes : List ℕ) (f : HostFile) → HasJust bytes f → Only (host_seen f) (host_may_leave f)
+all-durable : (bytes : List ℕ) (f : HostFile) → HasJust bytes f → (c : List ℕ) → host_may_leave f c → c ≡ host_seen f
 all-durable bytes f has c (inl same) = same
 all-durable bytes f has c (inr left) = let size = ap length has.noted in absurd (omega (arith, left.0, has.durable, size))
 
