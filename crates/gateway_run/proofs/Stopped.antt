@@ -7,13 +7,14 @@ use Rattle.audit_lines.specs.gate_audit.gate_journal.Kept.{Kept, kept_in}
 use Rattle.journal_file.specs.Endings.{EndsBy}
 use Rattle.journal_file.specs.declared.ending.Ending.{Ending}
 use Rattle.journal_file.specs.declared.ending.Ending.TheVariants.{GoesOn, Over, Torn}
-use Rattle.journal_file.specs.File.{before_page, form_of, sized_page, sized_pages, stands_at}
-use Rattle.journal_pages.specs.Page.{page_name}
+use Rattle.journal_file.specs.File.{before_page, form_of, sized_page, sized_pages}
+use Rattle.journal_pages.specs.Page.{page_name, version_named}
 use Rattle.journal_pages.specs.declared.version.Version.{Version}
 use Rattle.journal_pages.specs.declared.version.Version.TheVariants.{One, Two}
 use Rattle.audit_lines.specs.gate_audit.gate_journal.Day.{day_fault, day_records, kept_as, version_of}
 use Rattle.host_log.specs.Seen.{host_may_leave, host_seen}
-use Rattle.host_log.specs.Whole.{HasJust}
+use Rattle.host_log.specs.Left.{IsLeft}
+use Rattle.host_log.specs.Whole.{HasJust, IsSameFile}
 use Rattle.host_log.specs.declared.host_file.HostFile.{HostFile}
 use Rattle.turn_log.specs.Kept.{AreOf, HasAll}
 use Rattle.gateway_run.specs.Stopped.{EndsTorn, IsStopped}
@@ -41,19 +42,20 @@ same-bytes a b e = grind (arith, bytes_eq-Decides)
 
 -- ---- the version of its pages
 
-not-one : (page more : List ℕ) (b : Bool) → bytes_eq (take 4 page) (page_name One) ≡ b → bytes_eq (take 4 (page ++ more)) (page_name Two) ≡ true → (if b then One else Two) ≡ Two
+not-one : (page more : List ℕ) (b : Bool) → bytes_eq (take 4 page) (page_name One) ≡ b → version_named (page ++ more) ≡ Two → (if b then One else Two) ≡ Two
 not-one page more false is named = refl
 not-one page more true is named =
     let one : take 4 page ≡ page_name One = same-bytes (take 4 page) (page_name One) is in
-    let two : take 4 (page ++ more) ≡ page_name Two = same-bytes (take 4 (page ++ more)) (page_name Two) named in
     let size = ap length one in
     let long = length-take 4 page in
     let front : take 4 (page ++ more) ≡ take 4 page = take-append-le 4 page more (omega (arith, size, long)) in
-    let no : ⊥ = cc (sym one ∙ sym front ∙ two) in
+    let said : bytes_eq (take 4 (page ++ more)) (page_name One) ≡ true = ap (λ (l : List ℕ). bytes_eq l (page_name One)) front ∙ is in
+    let clash : One ≡ Two = sym (ap (λ (v : Bool). if v then One else Two) said) ∙ named in
+    let no : ⊥ = cc clash in
     absurd no
 
 of-two : (pages : List (List ℕ)) (rest file : List ℕ) (torn : ℕ) → file ≡ sized_pages Two pages ++ rest → length rest ≡ torn
-    → (torn ≡ length file) ⊎ (stands_at 16 (page_name Two) file ≡ true) → version_of pages ≡ Two
+    → (torn ≡ length file) ⊎ (version_named (drop 16 file) ≡ Two) → version_of pages ≡ Two
 of-two [] rest file torn same size named = refl
 of-two (page ∷ pages) rest file torn same size (inl all) =
     let whole = ap length same in
@@ -65,7 +67,7 @@ of-two (page ∷ pages) rest file torn same size (inr named) =
     let behind : List ℕ = sized_pages Two pages ++ rest in
     let is : file ≡ before_page Two page ++ (page ++ behind) =
     same ∙ append_assoc (sized_page Two page) (sized_pages Two pages) rest ∙ append_assoc (before_page Two page) page behind in
-    let name : bytes_eq (take 4 (page ++ behind)) (page_name Two) ≡ true = ap (λ (l : List ℕ). bytes_eq (take 4 (drop 16 l)) (page_name Two)) (sym is) ∙ named in
+    let name : version_named (page ++ behind) ≡ Two = ap (λ (l : List ℕ). version_named (drop 16 l)) (sym is) ∙ named in
     not-one page behind (bytes_eq (take 4 page) (page_name One)) refl name
 
 -- ---- what goes on
@@ -90,3 +92,14 @@ stopped-has file day torn f is has =
 -- a day on which nothing came, in a file that has nothing
 pub begun-has : (day : Kept) (f : HostFile) → day.pages ≡ [] → HasJust [] f → HasAll host_seen host_may_leave day.pages f
 begun-has day f none has = file-has [] day f has (record { day = refl; same = ap (day_records Two) (sym none) })
+
+-- a file that is synced later has the same
+pub same-has : (pages : List (List ℕ)) (f g : HostFile) → IsSameFile f g → HasAll host_seen host_may_leave pages f → HasAll host_seen host_may_leave pages g
+same-has pages f g same has =
+    let noted : (c : List ℕ) → host_may_leave g c → host_may_leave f c =
+    λ c left. subst (λ (b : List ℕ). IsLeft f.durable b c) same.noted (subst (λ (n : ℕ). IsLeft n g.noted.bytes c) same.durable left) in
+    record {
+      pages = has.pages;
+      of = has.of;
+      settled = record { written = same.noted ∙ has.settled.written; durable = λ c left. has.settled.durable c (noted c left) ∙ sym same.noted };
+    }

@@ -1,11 +1,8 @@
 //! Where a day is written ahead, and what is there of it.
 
-ghost use Rattle.std.specs.Prelude.{◌≡◌, [], IfOk};
-ghost use Rattle.journal_file.specs.File as spec;
-ghost use Rattle.journal_pages.specs.Page.{page_name};
+ghost use Rattle.std.specs.Prelude.{◌≡◌, [], IfOk, drop, true};
+ghost use Rattle.journal_pages.specs.Page.{version_named};
 ghost use Rattle.journal_pages.specs.declared.version.Version.TheVariants.{Two};
-ghost use Rattle.host_log.specs.Seen.{host_may_leave, host_seen};
-ghost use Rattle.turn_log.specs.Kept.{HasAll};
 ghost use Rattle.gateway_run.specs.Stopped.{IsStopped};
 
 use crate::sync_timer::SyncTimer;
@@ -13,7 +10,9 @@ use audit_lines::History;
 use desk_gates::HostFile;
 use host_log::{LaterSync, OpenFault, StoppedLog};
 use journal_file::{DayFile, Ending, FileFault, PageFault, read_file};
+use journal_pages::Version;
 use std::alloc::Global;
+use std::marker::Model;
 use thiserror::Error;
 
 /// Where a day is written ahead, and what is there of it: nothing, of a day that begins.
@@ -25,7 +24,18 @@ pub struct DayJournal {
     pub(crate) day: History,
     /// What has the file synced, where the file leaves that for later; without it nothing does.
     pub(crate) syncs: Option<SyncTimer<LaterSync>>,
-    ghost has: { HasAll host_seen host_may_leave day.pages file },
+}
+
+impl Model for DayJournal {
+    ghost use Rattle.audit_lines.specs.gate_audit.gate_journal.Kept.{Kept};
+    ghost use Rattle.host_log.specs.Seen.{host_may_leave, host_seen};
+    ghost use Rattle.turn_log.specs.Kept.{HasAll};
+
+    ghost Value = { Kept };
+
+    ghost view = { λ d. d.day };
+
+    ghost invariant = { λ d. HasAll host_seen host_may_leave d.day.pages d.file };
 }
 
 /// Why a day that stopped can't go on.
@@ -99,7 +109,9 @@ impl DayJournal {
     }
 
     /// The day so far.
-    pub fn day(&self) -> &History {
+    pub fn day(&self) -> &History
+        ensures { result.now ≡ self.now }
+    {
         &self.day
     }
 }
@@ -125,12 +137,12 @@ fn read_stopped(alloc: Global, file: &[u8]) -> Result<(History, usize), StoppedF
     Err(StoppedFault::Damaged(0, FileFault::Page(PageFault::Head)))
 }
 
-/// Whether the name of a page of version 2 stands behind a length and a sum.
+/// Whether the page behind a length and a sum is one of version 2.
 fn is_written_form(file: &[u8]) -> bool
-    ensures { result ≡ spec.stands_at 16 (page_name Two) file.now }
+    ensures { result ≡ true → version_named (drop 16 file.now) ≡ Two }
 {
     match file.get(16..) {
-        Some(rest) => rest.starts_with(b"GJ02"),
+        Some(page) => matches!(Version::named(page), Version::Two),
         None => false,
     }
 }
