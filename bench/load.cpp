@@ -1,11 +1,13 @@
 // A FIX client and an OUCH market for a gateway, or for a relay that passes bytes on, and how long fills take.
 //
-//     load gateway|relay CLIENT_PORT MARKET_PORT FILE ORDERS OUTSTANDING
+//     load gateway|relay CLIENT_PORT MARKET_PORT FILE ORDERS OUTSTANDING [PAUSE]
 //
 // It listens on MARKET_PORT of loopback, connects to CLIENT_PORT, and has a process between the two, whose number is in
-// FILE by then: start it behind this one. Of ORDERS orders so many are outstanding at once. The market answers an order by its Accepted and an Executed of the whole, in
-// one write. Printed are orders a second, nanoseconds from an order to its fill (half of them take less, 99 in 100 do),
-// and the processor time of that process an order. For a relay an order is 160 bytes and its answers are 126, unparsed.
+// FILE by then: start it behind this one. Of ORDERS orders so many are outstanding at once. The market answers an order
+// by its Accepted and an Executed of the whole, in one write. Behind a fill it waits PAUSE microseconds before the next
+// order, where that is said. Printed are orders a second, nanoseconds from an order to its fill (half of them take less,
+// 99 in 100 do), and the processor time of that process an order. For a relay an order is 160 bytes and its answers are
+// 126, unparsed.
 #include <arpa/inet.h>
 #include <netinet/tcp.h>
 #include <sys/socket.h>
@@ -130,9 +132,10 @@ static double used(const char *named) {
 }
 
 int main(int argc, char **argv) {
-    if (argc != 7) return std::fprintf(stderr, "see the head of load.cpp\n"), 2;
+    if (argc != 7 && argc != 8) return std::fprintf(stderr, "see the head of load.cpp\n"), 2;
     bool is_gateway = std::string(argv[1]) == "gateway";
     size_t orders = std::strtoul(argv[5], nullptr, 10), most = std::strtoul(argv[6], nullptr, 10);
+    useconds_t pause = argc == 8 ? std::atoi(argv[7]) : 0;
     int listener = socket(AF_INET, SOCK_STREAM, 0), one = 1;
     setsockopt(listener, SOL_SOCKET, SO_REUSEADDR, &one, sizeof one);
     sockaddr_in market = at(std::atoi(argv[3])), client = at(std::atoi(argv[2]));
@@ -191,6 +194,7 @@ int main(int argc, char **argv) {
         Clock::time_point now = Clock::now();
         for (size_t i = 0; i < filled; i++)
             took.push_back(std::chrono::duration<double, std::nano>(now - sent[took.size()]).count());
+        if (pause && filled) usleep(pause);
         send_more(filled);
     }
     double seconds = std::chrono::duration<double>(Clock::now() - start).count(), cpu = used(argv[4]) - before;

@@ -1,10 +1,12 @@
 #!/usr/bin/env python3
-"""bench/written_ahead.py GATEWAY LOAD RELAY [ORDERS] [TIMES]: what a journal costs a running gateway, over loopback.
+"""bench/written_ahead.py GATEWAY LOAD RELAY [ORDERS] [TIMES] [AGAIN]: what a journal costs a running gateway, over loopback.
 
 GATEWAY is a built program, LOAD and RELAY are `load.cpp` and `relay.cpp`, built. In turn, TIMES times (3): the relay, a
-gateway without a journal and one with: fills one at a time (a tenth of ORDERS, 20,000) and with 100 outstanding. Then
-a gateway with the journal of ORDERS orders is killed and started again: how long it takes until it listens."""
+gateway without a journal and with one, synced with each write, each 100 ms and never: fills one at a time (a tenth of
+ORDERS, 20,000) and with 100 outstanding. Then a gateway with the journal of AGAIN orders (ORDERS) is killed and started
+again: how long it takes until its port logs in; and it is killed again, and its day ended by its journal."""
 import os
+import resource
 import socket
 import subprocess
 import sys
@@ -26,6 +28,9 @@ firm = "FIRM"
 capacity = "A"
 customer = "R"
 """
+
+
+SYNCS = ("each", "100ms", "never")
 
 
 def free():
@@ -53,7 +58,7 @@ def one(gateway, load, relay, what, orders, outstanding):
         client, market = free(), free()
         Path(folder, "settings").write_text(SETTINGS.format(client=client, market=market))
         words = [gateway, "run", "--settings", f"{folder}/settings"]
-        words += ["--journal", f"{folder}/journal"] if what == "journal" else []
+        words += ["--journal", f"{folder}/journal", "--sync", what] if what in SYNCS else []
         kind = "relay" if what == "relay" else "gateway"
         words = [relay, str(client), str(market)] if what == "relay" else words
         said, running = loaded(load, kind, words, folder, orders, outstanding, client, market)
@@ -83,16 +88,22 @@ def again(gateway, load, orders):
             running.wait()
         print(f"{orders} orders, a journal of {size >> 20} MB: it logs in {took:.2f} s after it is started again, "
               f"{int(memory) >> 10} MB at most")
+        begin, before = time.monotonic(), resource.getrusage(resource.RUSAGE_CHILDREN).ru_maxrss
+        words = [gateway, "end", *words[2:]]
+        ran = subprocess.run(words, capture_output=True, text=True)
+        print(f"its day ends by its journal in {time.monotonic() - begin:.2f} s, status {ran.returncode}, "
+              f"{ran.stdout.splitlines()[-1:]}, "
+              f"{max(before, resource.getrusage(resource.RUSAGE_CHILDREN).ru_maxrss) >> 10} MB at most of all processes")
 
 
 def main():
     gateway, load, relay = sys.argv[1:4]
-    orders, times = (int(word) for word in (sys.argv[4:6] + ["20000", "3"][len(sys.argv) - 4:]))
+    orders, times = (int(word) for word in (sys.argv[4:6] + ["20000", "3"][len(sys.argv[4:6]):]))
     for _ in range(times):
-        for what in ("relay", "none", "journal"):
+        for what in ("relay", "none", *SYNCS):
             one(gateway, load, relay, what, orders // 10, 1)
             one(gateway, load, relay, what, orders, 100)
-    again(gateway, load, orders)
+    again(gateway, load, int(sys.argv[6]) if len(sys.argv) > 6 else orders)
 
 
 if __name__ == "__main__":

@@ -19,11 +19,17 @@ def options():
     it.add_argument("--rate", type=float, default=30, help="messages of a client a second, about")
     it.add_argument("--hostile", choices=["", "any", *HOSTILE], help="what one port says; nothing with ''")
     it.add_argument("--refuse", type=int, nargs="?", const=2000, metavar="R", help="one request for memory in R fails")
+    it.add_argument("--run", action="store_true", help="by gateway run, with a counted number of links")
     it.add_argument("--kill", type=int, default=0, metavar="N", help="the gateway is killed N times, and started again")
+    it.add_argument("--machine", action="store_true", help="with --kill: the machine stops, and what wasn't synced is lost")
+    it.add_argument("--sync", metavar="WHEN", help="when the journal is synced; with --machine each alone loses nothing")
     it.add_argument("--show", type=int, default=6, help="how many complaints are printed")
     it.add_argument("--details", action="store_true", help="counts by kind, also where nothing is wrong")
     it.add_argument("--keep", action="store_true", help="the folder of the day's files stays")
-    return it.parse_args()
+    given = it.parse_args()
+    if given.run and given.kill:
+        it.error("--kill is of a gateway that is served, --run of one that isn't")
+    return given
 
 
 def main():

@@ -20,7 +20,7 @@ PATIENCE = 30.0
 
 
 class Client:
-    """Of its links the day has a number; what isn't used up at the end is connected and closed."""
+    """Of its links the day has a number; where they are counted what isn't used up is connected and closed at the end."""
 
     def __init__(self, index, address, plan, day, stage, mood, may_fault):
         self.index, self.address, self.plan, self.day = index, address, plan, day
@@ -278,7 +278,7 @@ class Client:
         return order is not None and not order.closed and not self.book.port_state
 
     def leave(self, now):
-        """Logs out, and uses up the links that are left."""
+        """Logs out, and uses up the links that are left, where they are counted."""
         if self.link:
             if self.session.logged_on and not self.session.said_logout:
                 self.session.log_out(now)
@@ -286,7 +286,7 @@ class Client:
         if self.spare:
             self.spare.close()
             self.spare = None
-        elif self.dialled < self.day.links:
+        elif self.day.is_counted and self.dialled < self.day.links:
             stream = self.connect()
             if stream is None:
                 self.complain(f"nobody listens for link {self.dialled + 1}")
@@ -315,4 +315,5 @@ class Client:
         return {"orders": self.book.orders, "exec_ids": self.book.exec_ids, "order_ids": self.book.order_ids,
                 "counts": self.counts, "told": self.book.counts, "session": self.session.counts,
                 "complaints": self.complaints, "port_state": self.book.port_state, "links": self.dialled,
+                "next_out": self.session.next_out, "expected": self.session.expected,
                 "unread_logouts": self.unread_logouts, "silence": self.session.longest_silence}

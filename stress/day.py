@@ -11,12 +11,14 @@ import time
 from collections import Counter
 from pathlib import Path
 
+from . import operated
 from .client import CLOSED, LEFT, SETTLED, Client
 from .compare import compare
 from .link import free_addresses, listener
 from .plan import CLOSING, HOSTILE, LEAVING, OVER, SETTLING, TRADING, planned
 from .refusing import Refusing
 from .server import PASSWORD, USER, Server
+from .stopping import Stopping
 
 FORK = multiprocessing.get_context("fork")
 EVENT = re.compile(r"\d{8}-\d\d:\d\d:\d\d\.\d{3} ([CP]\d+) "
@@ -26,8 +28,18 @@ SKIPPED = re.compile(r"\d{8}-\d\d:\d\d:\d\d\.\d{3} (C\d+) skipped (\d+) bytes")
 UNSHOWN = re.compile(r"\d{8}-\d\d:\d\d:\d\d\.\d{3} C\d+ sent a Reject, a ResendRequest or a Logout")
 # why a link's session is refused, and that events wait for memory
 WHY = re.compile(r"\d{8}-\d\d:\d\d:\d\d\.\d{3} ([CP])\d+ (Logon refused|login rejected): [ -~]+")
+# what the audit of a day that goes on tells beside its accounts, and how it ends
+GOES_ON = re.compile(rb"the day goes on: its file (has no end|ends with \d+ bytes of a write that was cut short)\n")
+ALL_AGREE = re.compile(rb"(.*\n)*orders (\d+) agree \2\n")
+# what is told of a gateway that is served: links with their addresses, orders that wait, and its end
+UP = re.compile(r"\d{8}-\d\d:\d\d:\d\d\.\d{3} (C\d+) up from [0-9.:]+(, \d+ connects without a byte before)?")
+SERVED = [re.compile(it) for it in (
+    r"\d{8}-\d\d:\d\d:\d\d\.\d{3} P\d+ (up at [0-9.:]+|[0-9.:]+: [ -~]+; next try in \d+ s)",
+    r"\d{8}-\d\d:\d\d:\d\d\.\d{3} P\d+ \d+ orders wait, since \d\d:\d\d:\d\d",
+    r"gateway: the day ends: no further link is taken", r"gateway: journal: \S+ (goes on|ends) behind \d+ events",
+    r"gateway: journal: \d+ bytes of a write that was cut short are cut off")]
 MEMORY = re.compile(r"\d{8}-\d\d:\d\d:\d\d\.\d{3} gateway: (out of memory: events wait|memory is back after \d+\.\d s)")
-SETTLES, CLOSES, LEAVES = 90.0, 40.0, 60.0
+SETTLES, CLOSES, LEAVES, SHOWS = 90.0, 40.0, 60.0, 15.0
 
 
 def serve(path, made, *words):
@@ -66,6 +78,9 @@ class Day:
         self.complaints, self.processes = [], []
         self.wanted = [HOSTILE.get(it.hostile, b"") for it in self.plan.markets]
         self.refusing = Refusing(self.folder, options.refuse, self.plan.seed) if options.refuse else None
+        self.journal, self.settings = Path(self.folder, "journal"), Path(self.folder, "settings")
+        self.stopping = Stopping(self.folder, self.journal, self.plan.seed) if options.machine else None
+        self.is_served, self.shown = not options.run, None
 
     def run(self):
         """The report of the day."""
@@ -80,8 +95,8 @@ class Day:
 
     def start(self):
         markets = [self.start_market(i, plan) for i, plan in enumerate(self.plan.markets)]
-        control, *addresses = free_addresses(len(self.plan.clients) + 1)
-        Path(self.folder, "settings").write_text(settings(self.plan, markets, addresses, control))
+        self.control, *addresses = free_addresses(len(self.plan.clients) + 1)
+        self.settings.write_text(settings(self.plan, markets, addresses, self.control))
         self.start_gateway()
         for i, (address, plan) in enumerate(zip(addresses, self.plan.clients)):
             may_fault = HOSTILE.get(self.plan.markets[plan.port].hostile, b"") != b""
@@ -102,21 +117,46 @@ class Day:
         self.processes.append(process)
 
     def start_gateway(self):
-        words = [self.options.gateway, "serve" if self.options.kill else "run"]
-        words += ["--settings", str(Path(self.folder, "settings")), "--journal", str(Path(self.folder, "journal"))]
-        words += [] if self.options.kill else ["--links", str(self.plan.links)]
-        more = self.refusing.environment() if self.refusing else {}
+        more = ["--sync", self.options.sync] if self.options.sync else []
+        if self.is_served:
+            self.begin("serve", *more)
+        else:
+            self.begin("run", "--links", str(self.plan.links), *more)
+
+    def begin(self, *words):
+        """The gateway's process, by these words and the day's settings and journal."""
+        words = [self.options.gateway, *words, "--settings", str(self.settings), "--journal", str(self.journal)]
+        layers = [it.environment() for it in (self.refusing, self.stopping) if it]
+        more = {name: value for it in layers for name, value in it.items()}
+        if layers:
+            more["LD_PRELOAD"] = ":".join(it["LD_PRELOAD"] for it in layers)
         with open(Path(self.folder, "output"), "wb") as output, open(Path(self.folder, "errors"), "ab") as errors:
             self.gateway = subprocess.Popen(words, stdout=output, stderr=errors, env={**os.environ, **more})
         self.status, self.usage = None, None
 
-    def kill_gateway(self):
-        """The gateway is gone at once, and begun again with the same journal."""
+    def lose_gateway(self):
+        """The gateway is gone at once, or its machine stops."""
+        self.audit_so_far("runs")
         self.plan.killed.value += 1
         self.gateway.kill()
         self.gateway.wait()
+        if self.stopping:
+            self.stopping.stop()
         self.plan.killed.value += 1
+        self.audit_so_far("is killed")
+
+    def kill_gateway(self):
+        """The gateway is lost, and begun again with the same journal."""
+        self.lose_gateway()
         self.start_gateway()
+
+    def audit_so_far(self, when):
+        """The audit of the day so far: each order has both accounts the same at any moment."""
+        words = [self.options.gateway, "audit", "--so-far", "--journal", str(self.journal), "--settings", str(self.settings)]
+        ran = subprocess.run(words, capture_output=True)
+        if ran.returncode != 0 or not GOES_ON.fullmatch(ran.stderr) or not ALL_AGREE.fullmatch(ran.stdout):
+            self.complaints.append(f"seed {self.plan.seed}: the audit so far, as the gateway {when}: "
+                                   f"{ran.returncode} {ran.stderr[:200]!r} {ran.stdout[-200:]!r}")
 
     def trade(self, seconds):
         """So many seconds of traffic, in which the gateway is killed as often as is asked for."""
@@ -129,10 +169,20 @@ class Day:
         self.wait(begin + seconds - time.monotonic(), lambda: False)
 
     def end_gateway(self):
-        """A gateway that is served is told to end."""
-        if self.options.kill:
-            words = [self.options.gateway, "end", "--now", "--settings", str(Path(self.folder, "settings"))]
+        """What a gateway that is served shows is kept, and it is told to end; or, one day in two on which it is killed, it
+        is lost once more, and its day ended by its journal."""
+        if not self.is_served or self.poll():
+            return
+        try:
+            self.shown = operated.shown(self.control, SHOWS)
+        except (OSError, ValueError) as why:
+            self.complaints.append(f"seed {self.plan.seed}: the status can't be had: {why}")
+        if not self.options.kill or self.plan.seed % 2 == 0:
+            words = [self.options.gateway, "end", "--now", "--settings", str(self.settings)]
             subprocess.run(words, capture_output=True)
+            return
+        self.lose_gateway()
+        self.begin("end")
 
     def poll(self):
         """The gateway's end, once it is there, with what it has used."""
@@ -220,15 +270,26 @@ class Day:
             self.wanted = [HOSTILE.get(it["hostile"], b"") if it["said"] else b"" for it in markets]
             self.complaints += [f"seed {self.plan.seed}: {it}" for it in compare(clients, markets, output)]
             self.complaints += self.port_states(clients)
+            self.complaints += [f"seed {self.plan.seed}: {it}" for it in self.operated(clients, markets, output)]
         if self.status != 0:
             self.complaints.append(f"seed {self.plan.seed}: the gateway's status is {self.status}")
         self.complaints += self.read_again(output)
         return Report(self, clients, markets)
 
+    def operated(self, clients, markets, output):
+        """What is wrong of what the gateway shows and tells at the end, and of its journal's messages."""
+        if not self.is_served:
+            return
+        told = operated.last_lines(Path(self.folder, "errors").read_bytes())
+        rows = operated.journal_rows(self.options.gateway, Path(self.folder, "journal"))
+        yield from operated.compare_last_lines(clients, told)
+        yield from operated.compare_journal(clients, rows)
+        yield from operated.compare_shown(self.shown, clients, markets, self.wanted, output, told, rows)
+
     def read_again(self, output):
         """The audit of the day's journal has to be the gateway's own."""
-        words = [self.options.gateway, "audit", "--journal", str(Path(self.folder, "journal"))]
-        ran = subprocess.run(words + ["--settings", str(Path(self.folder, "settings"))], capture_output=True)
+        words = [self.options.gateway, "audit", "--journal", str(self.journal), "--settings", str(self.settings)]
+        ran = subprocess.run(words, capture_output=True)
         if ran.returncode != 0 or ran.stdout != output or ran.stderr:
             yield f"seed {self.plan.seed}: the journal's audit is another: {ran.returncode} {ran.stderr[:200]!r}"
 
@@ -249,7 +310,9 @@ class Day:
         """The lines on standard error by kind; another line is a complaint."""
         counts, ups, faults, skipped = Counter(), Counter(), Counter(), Counter()
         self.logouts = []
-        for line in Path(self.folder, "errors").read_text(errors="replace").splitlines():
+        errors = Path(self.folder, "errors").read_bytes()
+        last = set(operated.last_lines(errors).split(b"\n"))
+        for line in (it.decode("latin-1") for it in errors.split(b"\n") if it and it not in last):
             if self.refusing and UNSHOWN.fullmatch(line):
                 counts["C sent what isn't shown"] += 1
                 continue
@@ -263,7 +326,11 @@ class Day:
                 counts["C skipped"] += 1
                 skipped[skips[1], ups[skips[1]]] = int(skips[2])
                 continue
-            if self.options.kill and not EVENT.fullmatch(line):
+            if up := UP.fullmatch(line):
+                counts["C up"] += 1
+                ups[up[1]] += 1
+                continue
+            if self.is_served and any(it.fullmatch(line) for it in SERVED):
                 counts["of a gateway that is served"] += 1
                 continue
             found = EVENT.fullmatch(line)
@@ -280,7 +347,7 @@ class Day:
         if not self.options.kill:
             self.port_faults(faults)
         for name, count in ups.items():
-            if not self.options.kill and (count > self.plan.links or name[0] == "C" and count < self.plan.links):
+            if not self.is_served and (count > self.plan.links or name[0] == "C" and count < self.plan.links):
                 self.complaints.append(f"seed {self.plan.seed}: {name} had {count} links of {self.plan.links}")
         return counts
 
@@ -329,12 +396,15 @@ class Report:
             "client links lost": client["links cut"] + client["links that the gateway closed"],
             "port links cut": market["links cut"], "bytes of garbage": session["bytes of garbage"],
             "stalls": client["stalls"], "hostile ports": sum(it["said"] for it in self.markets),
-            "refused requests": refused})
+            "refused requests": refused,
+            "stops that lost bytes": self.day.stopping.losses if self.day.stopping else 0,
+            "bytes lost": self.day.stopping.lost if self.day.stopping else 0})
 
     def lines(self):
         plan, usage = self.day.plan, self.day.usage
         hostile = "".join(it.hostile for it in plan.markets) or "none"
-        yield (f"seed {plan.seed}: {len(plan.clients)} clients, {len(plan.markets)} ports, {plan.links} links each, "
+        yield (f"seed {plan.seed}: {len(plan.clients)} clients, {len(plan.markets)} ports, {plan.links} links each"
+               f"{'' if self.day.is_served else ' and no more'}, "
                f"hostile {hostile}, {getattr(self.day, 'took', 0):.0f} s")
         yield f"  {show(self.totals())}"
         if usage:
@@ -355,6 +425,9 @@ class Report:
         yield f"  standard error: {show(self.events)}"
         if self.day.refusing:
             yield "  memory: refused {} of {} requests".format(*self.day.refusing.counted())
+        if self.day.stopping:
+            it = self.day.stopping
+            yield f"  machine: {it.stops} stops, {it.losses} of them lost {it.lost} bytes that weren't synced"
 
 
 def show(counts):

@@ -48,6 +48,7 @@ class Day:
     seed: int
     seconds: float
     links: int
+    is_counted: bool
     markets: list
     clients: list
 
@@ -62,7 +63,8 @@ def planned(options):
     hostile = it.choice(list(HOSTILE))
     if options.hostile or it.random() < 0.25 and options.hostile is None:
         it.choice(markets).hostile = options.hostile if options.hostile in HOSTILE else hostile
-    return Day(options.seed, options.seconds, links, markets, [client(it, i, ports, options) for i in range(clients)])
+    made = [client(it, i, ports, options) for i in range(clients)]
+    return Day(options.seed, options.seconds, links, options.run, markets, made)
 
 
 def market(it, options):

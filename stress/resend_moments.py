@@ -69,11 +69,12 @@ def tried(program):
     with tempfile.NamedTemporaryFile("w", prefix="stress.") as file:
         file.write(SETTINGS.format(held.getsockname()[1], address))
         file.flush()
-        words = [program, "run", "--settings", file.name]
+        words = [program, "serve", "--settings", file.name]
         ran = subprocess.Popen(words, stdout=subprocess.DEVNULL, stderr=subprocess.DEVNULL)
         time.sleep(1)
         found = repeats(address)
-        ran.wait(20)
+        ran.kill()
+        ran.wait()
     return found, [it for it in found if it[122] > it[52]]
 
 

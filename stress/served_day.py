@@ -50,6 +50,10 @@ from = ["127.0.0.2", "10.0.0.0/8"]
 """
 
 
+# so often each of six readers fetches the page
+PAGES = 1_667
+
+
 class Market:
     """Fills each order at once, but for those of INTC at 1: they stay open. What it said it keeps."""
 
@@ -392,7 +396,7 @@ class Day:
         counts = []
 
         def reads():
-            counts.append(sum(self.fetched("/")[0] == 200 for _ in range(250)))
+            counts.append(sum(self.fetched("/")[0] == 200 for _ in range(PAGES)))
 
         threads = [threading.Thread(target=reads) for _ in range(6)]
         begin = time.monotonic()
@@ -403,8 +407,8 @@ class Day:
         spent = time.monotonic() - begin
         for thread in threads:
             thread.join()
-        self.is_so(f"1,500 pages are read beside two connections that say half ({time.monotonic() - begin:.1f} s)",
-                   counts == [250] * 6)
+        self.is_so(f"{6 * PAGES:,} pages are read beside two connections that say half ({time.monotonic() - begin:.1f} s)",
+                   counts == [PAGES] * 6)
         self.is_so(f"an order is filled meanwhile ({1000 * spent:.0f} ms)", is_filled and spent < 1)
         status = self.status_where(lambda it: it["age_ms"] < 1500)
         self.is_so("the status is of just now behind that", status["age_ms"] < 1500)
@@ -512,6 +516,21 @@ class Day:
         ran = self.exported("--format", "xml")
         self.is_so("another form is refused", (ran.returncode, ran.stdout) == (2, ""))
 
+    def orders_that_wait(self):
+        """A day on which the market never comes."""
+        self.running = self.start()
+        self.says("next try in")
+        bank = Client(b"BANK", self.at["bank"])
+        bank.log_on()
+        bank.order(b"W1")
+        begin = time.monotonic()
+        is_told = self.says(" P1 1 orders wait, since ", 14)
+        spent = time.monotonic() - begin
+        self.is_so(f"that an order waits is told after ten seconds ({spent:.1f} s)", is_told and 8.5 < spent)
+        ran, status = self.end("--now"), self.running.wait(20)
+        self.is_so("and at the end that it wasn't answered", (ran.returncode, status) == (0, 0)
+                   and self.says("W1 of BANK: asked, not answered\n"))
+
     def a_pipe_that_nobody_reads(self):
         words = [self.gateway, "serve", "--settings", str(self.settings)]
         self.market = Market(self.at["market"])
@@ -549,7 +568,7 @@ class Day:
         for step in (self.an_address_in_use, self.nobody_to_end, self.before_the_market, self.bare_connects,
                      self.refused_logons, self.foreign_addresses, self.market_restarts, self.what_is_shown,
                      self.a_disconnect, self.many_readers, self.headers, self.the_end, self.an_export,
-                     self.a_pipe_that_nobody_reads):
+                     self.orders_that_wait, self.a_pipe_that_nobody_reads):
             step()
         print("all is right" if self.wrong == 0 else f"{self.wrong} wrong")
         return 1 if self.wrong else 0

@@ -215,4 +215,5 @@ class Server:
 
     def result(self):
         return {"orders": self.market.orders, "counts": self.counts, "complaints": self.complaints,
-                "hostile": self.plan.hostile, "said": self.is_said}
+                "hostile": self.plan.hostile, "said": self.is_said, "address": self.address,
+                "history": len(self.market.history)}

@@ -77,7 +77,7 @@ def main():
         settings.write_text('comp = "GATE"\n' + "".join(PORT.format(i + 1, it) for i, it in enumerate(ports))
                             + "".join(CLIENT.format(i + 1, it) for i, it in enumerate(clients)))
         markets = [Market(it, time.monotonic() + seconds + 5) for it in ports]
-        words = [sys.argv[1], "run", "--settings", str(settings), "--links", "3"]
+        words = [sys.argv[1], "serve", "--settings", str(settings)]
         with errors.open("w") as told, subprocess.Popen(words, stdout=subprocess.DEVNULL, stderr=told) as gateway:
             time.sleep(2)
             client = Client(clients[0])

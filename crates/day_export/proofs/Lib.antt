@@ -1,2 +1,4 @@
+mod Asked
+mod Joined
 mod Listed
-mod Unsequenced
+mod Turns

@@ -1,4 +1,6 @@
+mod Examples
 pub mod Exported
 pub mod Forms
 pub mod Market
+pub mod Rows
 pub mod Said

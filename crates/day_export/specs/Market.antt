@@ -2,9 +2,11 @@
 -- password, carries none.
 --
 -- Source: SoupBinTCP 3.00, "Logical Packets"; OUCH 4.2, "Outbound Messages".
-use Rattle.std.specs.Prelude.{◌≡◌, ◌==◌, ℕ, List, [], ◌∷◌, ◌++◌, ⊤, codes, decimal, Result, Ok, Err, if◌then◌else◌}
+use Rattle.std.specs.Prelude.{◌==◌, ℕ, List, [], ◌∷◌, ◌++◌, codes, decimal, Result, Ok, Err, if◌then◌else◌}
 use Rattle.soup_packets.specs.declared.packet.Packet.{Packet}
-use Rattle.soup_packets.specs.Spelling.{packet_bytes}
+use Rattle.ouch_codec.specs.Layout.{is_message}
+use Rattle.ouch_codec.specs.Layouts.{enter_order_layout, replace_layout, cancel_layout}
+use Rattle.ouch_codec.specs.ToMarket as asked
 use Rattle.ouch_codec.specs.Values.{decoded}
 use Rattle.ouch_codec.specs.declared.refusal.DecodeRefusal.{DecodeRefusal}
 use Rattle.ouch_codec.specs.declared.outbound.Outbound.{Outbound}
@@ -60,12 +62,24 @@ packet_said p = if p.kind == 83 then read_said (decoded p.payload) else []
 
 -- ---- to the market
 
--- something is handed on of a packet of this type alone
-abbrev pub OnlyOfKind : ℕ → Packet → List Said → Type 0
-OnlyOfKind kind p [] = ⊤
-OnlyOfKind kind p (cell ∷ cells) = p.kind ≡ kind
+-- what a message says, by the offsets of its layout; of bytes that are none nothing (OUCH 4.2, "Inbound Messages")
+unfoldable pub inbound_said : List ℕ → List Said
+inbound_said bytes =
+    if is_message enter_order_layout bytes then
+    with_price 79 (asked.token bytes) (asked.enter_shares bytes) (asked.enter_price bytes)
+    else if is_message replace_layout bytes then
+    with_previous (asked.replacement_token bytes) (asked.token bytes) (asked.replace_shares bytes)
+    (asked.replace_price bytes)
+    else if is_message cancel_layout bytes then with_shares 88 (asked.token bytes) (asked.cancel_shares bytes)
+    else []
 
--- and of bytes that are an Unsequenced Data Packet (U), in which a message to the market goes
-abbrev pub OnlyOfUnsequenced : List ℕ → List Said → Type 0
-OnlyOfUnsequenced bytes [] = ⊤
-OnlyOfUnsequenced bytes (cell ∷ cells) = (p : Packet) × (packet_bytes p ≡ bytes) × (p.kind ≡ 85)
+-- of an Unsequenced Data Packet (U) what its payload is, of any other nothing
+abbrev pub typed_said : ℕ → List ℕ → List Said
+typed_said kind payload = if kind == 85 then inbound_said payload else []
+
+-- of the bytes of a packet: two of its length, its type, its payload
+unfoldable pub asked_said : List ℕ → List Said
+asked_said [] = []
+asked_said (high ∷ []) = []
+asked_said (high ∷ low ∷ []) = []
+asked_said (high ∷ low ∷ kind ∷ payload) = typed_said kind payload

@@ -13,6 +13,7 @@ mod fields;
 mod format;
 mod market;
 mod row;
+mod turn;
 mod writing;
 
 pub use day::export_day;

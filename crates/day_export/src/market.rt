@@ -5,47 +5,47 @@ ghost use Rattle.ouch_codec.specs.Values.{decoded};
 ghost use Rattle.day_export.specs.Market as spec;
 
 use crate::cells::Cell;
-use ouch_codec::{Cancel, EnterOrder, FixedWire, Outbound, Replace, WholeWire, decode};
+use ouch_codec::{Cancel, EnterOrder, FixedWire, Outbound, Replace, decode};
 use soup_packets::Packet;
 use std::alloc::{AllocError, Global};
 
-/// What the market is asked, of the bytes of a packet to it; no cells where they ask nothing: a login, a heartbeat.
+/// What the market is asked, of the bytes of a packet to it: two of its length, its type, what it carries. No cells
+/// where they ask nothing: a login, a heartbeat.
+#[tactic(auto, unfolding(crate::specs::Market::asked_said))]
 pub(crate) fn cells_of_asked(alloc: Global, bytes: &[u8]) -> Result<Vec<Cell>, AllocError>
-    ensures { IfOk result (λ cells. spec.OnlyOfUnsequenced bytes.now cells.items) }
+    ensures { IfOk result (λ cells. cells.items ≡ spec.asked_said bytes.now) }
 {
-    let read = Packet::get(alloc, bytes)?;
-    match read {
-        Some(packet) => {
-            let cells = cells_in(alloc, &packet)?;
-            Ok(cells)
-        }
-        None => Ok(Vec::new(alloc)),
+    match bytes {
+        [_, _, kind, payload @ ..] => cells_of_type(alloc, *kind, payload),
+        _ => Ok(Vec::new(alloc)),
     }
 }
 
-/// The same of a packet.
-fn cells_in(alloc: Global, packet: &Packet) -> Result<Vec<Cell>, AllocError>
-    ensures { IfOk result (λ cells. spec.OnlyOfKind 85 packet.now cells.items) }
+/// The same of a packet of this type.
+fn cells_of_type(alloc: Global, kind: u8, payload: &[u8]) -> Result<Vec<Cell>, AllocError>
+    ensures { IfOk result (λ cells. cells.items ≡ spec.typed_said kind payload.now) }
 {
-    if packet.kind == b'U' {
-        cells_of_inbound(alloc, packet.payload.as_slice())
+    if kind == b'U' {
+        cells_of_inbound(alloc, payload)
     } else {
         Ok(Vec::new(alloc))
     }
 }
 
 /// The same of a message.
-fn cells_of_inbound(alloc: Global, payload: &[u8]) -> Result<Vec<Cell>, AllocError> {
+fn cells_of_inbound(alloc: Global, payload: &[u8]) -> Result<Vec<Cell>, AllocError>
+    ensures { IfOk result (λ cells. cells.items ≡ spec.inbound_said payload.now) }
+{
     if let Some(m) = EnterOrder::get(payload) {
         return priced(alloc, b'O', &m.token, m.shares, m.price);
     }
     if let Some(m) = Replace::get(payload) {
         return replaced(alloc, &m.replacement_token, &m.token, m.shares, m.price);
     }
-    match Cancel::get(payload) {
-        Some(m) => counted(alloc, b'X', &m.token, m.shares),
-        None => Ok(Vec::new(alloc)),
+    if let Some(m) = Cancel::get(payload) {
+        return counted(alloc, b'X', &m.token, m.shares);
     }
+    Ok(Vec::new(alloc))
 }
 
 /// What the market says, of a packet from it; no cells where it says nothing of an order.

@@ -67,6 +67,7 @@ impl<F: LogFile> DayLog<F> {
         ensures failed { IsErrOf result Failed → self.new.shut ≡ Some Failed }
         ensures cause { IsErrOf result Failed
             → (self.old.shut ≡ Some Failed) ⊎ (F.faults self.old.file < F.faults self.new.file) }
+        ensures ended { IsErrOf result Ended → self.old.shut ≡ Some Ended }
         ensures no_memory { IsErrOf result NoMemory → self.new ≡ self.old }
         ensures last { (fault : LogFault) → self.old.shut ≡ Some fault → (result ≡ Err fault) × (self.new ≡ self.old) }
     {
@@ -83,6 +84,7 @@ impl<F: LogFile> DayLog<F> {
         ensures failed { IsErrOf result Failed → self.new.shut ≡ Some Failed }
         ensures cause { IsErrOf result Failed
             → (self.old.shut ≡ Some Failed) ⊎ (F.faults self.old.file < F.faults self.new.file) }
+        ensures twice { IsErrOf result Ended → self.old.shut ≡ Some Ended }
         ensures no_memory { IsErrOf result NoMemory → self.new ≡ self.old }
         ensures last { (fault : LogFault) → self.old.shut ≡ Some fault → (result ≡ Err fault) × (self.new ≡ self.old) }
     {
@@ -100,6 +102,7 @@ impl<F: LogFile> DayLog<F> {
         ensures failed { IsErrOf result Failed → self.new.shut ≡ Some Failed }
         ensures cause { IsErrOf result Failed
             → (self.old.shut ≡ Some Failed) ⊎ (F.faults self.old.file < F.faults self.new.file) }
+        ensures ended { IsErrOf result Ended → self.old.shut ≡ Some Ended }
         ensures no_memory { IsErrOf result NoMemory → self.new ≡ self.old }
         ensures last { (fault : LogFault) → self.old.shut ≡ Some fault → (result ≡ Err fault) × (self.new ≡ self.old) }
     {

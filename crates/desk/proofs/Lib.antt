@@ -1,3 +1,4 @@
 mod Starting
 mod Rounding
+mod Ahead
 pub mod Sent

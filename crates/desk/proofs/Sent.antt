@@ -17,7 +17,16 @@ use Rattle.desk.specs.contracts.desk_value.Desk as Desk
 use Rattle.desk.specs.contracts.shared.Shared as Shared
 
 host_file_send : IsSend HostFile.the_row
-host_file_send = search (sendable, crosses) depth 100 fits 500000
+host_file_send = declared_send HostFile.the_type (
+  search (sendable, crosses) depth 60,
+  (
+    search (sendable, crosses) depth 60,
+    (
+      search (sendable, crosses) depth 60,
+      (search sendable, (search sendable, (search (sendable, crosses) depth 100 fits 500000, tt))),
+    ),
+  ),
+)
 
 turn_log_send : IsSend (TurnLog.the_row HostFile.the_row HostFileLogFile.TheImpl.ghosts)
 turn_log_send = search (host_file_send, sendable, crosses) depth 100 fits 500000

@@ -1,3 +1,4 @@
+pub mod Ahead
 pub mod Offered
 pub use Rattle.desk_ends.specs.Rings
 pub use Rattle.desk_steps.specs.Agreeing

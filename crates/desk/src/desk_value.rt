@@ -18,7 +18,8 @@ use turn_log::{DayLog, LogFault, TurnLog};
 /// that is promised of that; the ends are those that the desk's name names; what came out of an inlet's ring is what
 /// the history has of its source; what went into an outlet's ring is what the batches told it, or a beginning of that.
 ///
-/// Where it has a journal, what a step tells waits beside the rings until the step is in the journal's file, durably.
+/// Where it has a journal, what a step tells waits beside the rings until the step is in the journal's file, durably: its
+/// type keeps that what went into an outlet's ring is a beginning of what the file's day tells.
 pub struct Desk<K: DeskName, S: BuildHasher + Drop = BuildHasherDefault<FoldHasher>> {
     recorded: RecordedCore<S>,
     side: Side,
@@ -40,25 +41,29 @@ impl<K: DeskName, S: BuildHasher + Drop> Drop for Desk<K, S> {
 
 impl<K: DeskName, S: BuildHasher + Drop> Model for Desk<K, S> {
     ghost use Rattle.desk_steps.specs.Agreeing.{Agrees, DeskState};
+    ghost use Rattle.desk.specs.Ahead.{KeepsAhead};
 
     ghost Value = { DeskState };
 
     ghost view = { λ d. record { recorded = d.recorded; side = d.side } };
 
-    ghost invariant = { λ d. Agrees K.inlets K.outlets (record { recorded = d.recorded; side = d.side }) };
+    ghost invariant = { λ d. Agrees K.inlets K.outlets (record { recorded = d.recorded; side = d.side })
+        × KeepsAhead d.journal (record { recorded = d.recorded; side = d.side }) };
 }
 
-/// What is left of a desk that was closed: its history, the settings of its core, and why its journal doesn't have all,
-/// if it had one that doesn't.
+/// What is left of a desk that was closed: its history, the settings of its core, its journal, if it had one, and why
+/// that doesn't have all, if it doesn't.
 #[derive(Drop)]
 pub struct Closed {
     pub history: History,
     pub settings: Settings,
+    pub journal: Option<TurnLog<HostFile>>,
     pub lost: Option<LogFault>,
 }
 
 impl<K: DeskName, S: BuildHasher + Drop> Desk<K, S> {
-    ghost use Rattle.std.specs.Prelude.{◌≡◌, IfOk, MatchOption, OnOk, OnErr};
+    ghost use Rattle.std.specs.Prelude.{◌≡◌, IfOk, List, MatchOption, OnOk, OnErr};
+    ghost use Rattle.desk.specs.Ahead.{ToldIsKept};
     ghost use Rattle.same_days.specs.Same.{IsOtherAt, IsSameDay};
     ghost use Rattle.gate_law.specs.After.{lists};
     ghost use Rattle.gate_law.specs.Holds.{Holds};
@@ -67,8 +72,11 @@ impl<K: DeskName, S: BuildHasher + Drop> Desk<K, S> {
     ghost use Rattle.gate_events.specs.Seen.{event_seen};
     ghost use Rattle.desk_steps.specs.gate_journal.Kept.{turns};
     ghost use Rattle.desk_steps.specs.Agreeing.{Agrees, AreNamed};
-    ghost use Rattle.desk_steps.specs.Settling.{AreSettled, HistoryGoesOn};
+    ghost use Rattle.desk_ends.specs.Rings.{Done};
+    ghost use Rattle.desk_steps.specs.Settling.{AreReleased, AreSettled, HistoryGoesOn};
     ghost use Rattle.desk_steps.specs.Turning.{RoundIsRefused, Rounds};
+    ghost use Rattle.host_log.specs.Seen.{host_may_leave, host_seen};
+    ghost use Rattle.turn_log.specs.Kept.{HasAll};
 
     /// A desk of parts that agree.
     pub(crate) fn new(recorded: RecordedCore<S>, side: Side) -> Desk<K, S>
@@ -84,9 +92,10 @@ impl<K: DeskName, S: BuildHasher + Drop> Desk<K, S> {
     }
 
     /// From now on what is stepped is written into this log before anybody is told: the log has all of the history so
-    /// far. `AllocError` gives the log up, and leaves the desk without one.
+    /// far. `AllocError` gives the log up.
     pub(crate) fn begin_journal(&mut self, log: DayLog<HostFile>) -> Result<(), AllocError>
-        ensures { self.new ≡ self.old }
+        requires has { HasAll host_seen host_may_leave self.old.recorded.kept.pages log.file }
+        ensures recorded { self.new.recorded ≡ self.old.recorded }
     {
         self.side.stage()?;
         self.journal = Some(TurnLog::of(log, self.recorded.history()));
@@ -98,6 +107,8 @@ impl<K: DeskName, S: BuildHasher + Drop> Desk<K, S> {
     /// leaves all as it was.
     pub(crate) fn keep(&mut self, alloc: Global) -> Result<(), LogFault>
         ensures recorded { self.new.recorded ≡ self.old.recorded }
+        ensures released { (finished : List Done) → AreReleased finished self.old.side.ways
+            → AreReleased finished self.new.side.ways }
     {
         let Some(journal) = &mut self.journal else {
             return Ok(());
@@ -114,7 +125,7 @@ impl<K: DeskName, S: BuildHasher + Drop> Desk<K, S> {
 
     /// Ends the journal, where there is one: it has all, and its end.
     pub(crate) fn end_journal(&mut self) -> Result<(), LogFault>
-        ensures recorded { self.new.recorded ≡ self.old.recorded }
+        ensures { self.new ≡ self.old }
     {
         match &mut self.journal {
             Some(journal) => journal.end(),
@@ -122,13 +133,23 @@ impl<K: DeskName, S: BuildHasher + Drop> Desk<K, S> {
         }
     }
 
-    /// `None` where the history has just the events and batches of this day; else how many batches are the same before
-    /// the first that differs.
-    pub(crate) fn first_other(&self, day: &History) -> Option<u64>
-        ensures { MatchOption result (IsSameDay self.now.recorded.kept day.now)
-            (λ place. IsOtherAt place self.now.recorded.kept day.now) }
+    /// Goes on with a journal of this day, as `begin_journal` does, where the history has just its events and batches.
+    /// Else nothing is done, and it gives how many batches are the same before the first that differs.
+    pub(crate) fn go_on(
+        &mut self,
+        log: DayLog<HostFile>,
+        day: &History,
+    ) -> Result<Option<u64>, AllocError>
+        requires has { HasAll host_seen host_may_leave day.now.pages log.file }
+        ensures recorded { self.new.recorded ≡ self.old.recorded }
+        ensures same { IfOk result (λ other. MatchOption other (IsSameDay self.old.recorded.kept day.now)
+            (λ place. IsOtherAt place self.old.recorded.kept day.now)) }
     {
-        first_other(self.recorded.history(), day)
+        if let Some(place) = first_other(self.recorded.history(), day) {
+            return Ok(Some(place));
+        }
+        self.begin_journal(log)?;
+        Ok(None)
     }
 
     /// Goes once round the inlets, in order, and steps an event of each at most. An event waits where a ring is full to
@@ -210,6 +231,7 @@ impl<K: DeskName, S: BuildHasher + Drop> Desk<K, S> {
         ensures same { finished.new.items ≡ finished.old.items }
         ensures goes_on { HistoryGoesOn self.old.recorded self.new.recorded }
         ensures settled { OnOk result (AreSettled finished.old.items self.new.recorded.kept) }
+        ensures released { AreReleased finished.old.items self.new.side.ways }
     {
         settle(&mut self.recorded, &mut self.side, alloc, finished)
     }
@@ -220,17 +242,20 @@ impl<K: DeskName, S: BuildHasher + Drop> Desk<K, S> {
         ensures settings { result.settings ≡ self.recorded.settings }
         ensures holds { Holds result.settings (turns result.history) }
         ensures named { AreNamed K.inlets result.history.events }
+        ensures told { (finished : List Done) → AreReleased finished self.side.ways
+            → ToldIsKept finished result.journal }
     {
         let Desk {
             recorded,
             side: _,
-            journal: _,
+            journal,
             of: _,
         } = self;
         let (settings, history) = recorded.into_parts();
         Closed {
             history,
             settings,
+            journal,
             lost,
         }
     }

@@ -1,6 +1,8 @@
 //! A desk that threads share.
 
-ghost use Rattle.std.specs.Prelude.{◌≡◌};
+ghost use Rattle.std.specs.Prelude.{◌≡◌, List};
+ghost use Rattle.desk_ends.specs.Rings.{Done};
+ghost use Rattle.desk_steps.specs.Settling.{AreReleased};
 
 use crate::desk_value::{Closed, Desk};
 use crate::told_outlets::{ToldOutlets, WriteTold};
@@ -72,6 +74,9 @@ impl<K: DeskName, S: BuildHasher + Drop> Shared<K, S> {
     ghost use Rattle.desk_steps.specs.gate_journal.Kept.{turns};
     ghost use Rattle.desk_steps.specs.Agreeing.{AreNamed};
     ghost use Rattle.desk_steps.specs.Settling.{AreSettled};
+    ghost use Rattle.desk.specs.Ahead.{ToldIsKept};
+    ghost use Rattle.host_log.specs.Seen.{host_may_leave, host_seen};
+    ghost use Rattle.turn_log.specs.Kept.{HasAll};
 
     /// This desk, to be shared, with the bells of its outlets.
     pub(crate) fn new(desk: Desk<K, S>, bells: Vec<Parker>) -> Shared<K, S> {
@@ -231,20 +236,22 @@ impl<K: DeskName, S: BuildHasher + Drop> Shared<K, S> {
         self.is_lost.load(Ordering::SeqCst)
     }
 
-    /// From now on what is stepped is in this log, durably, before anybody is told, once the lock could be had. The log
-    /// has all of the history so far. `AllocError` gives the log up.
-    pub fn begin_journal(&self, rt: &impl Wait, log: DayLog<HostFile>) -> Result<(), AllocError> {
+    /// Goes on with a log that has this day, once the lock could be had: where the history has just the day's events and
+    /// batches, what is stepped from now on is in the log, durably, before anybody is told.
+    ///
+    /// Else nothing is done, and it gives how many batches are the same before the first that differs. `AllocError`
+    /// gives the log up.
+    pub fn go_on(
+        &self,
+        rt: &impl Wait,
+        log: DayLog<HostFile>,
+        day: &History,
+    ) -> Result<Option<u64>, AllocError>
+        requires has { HasAll host_seen host_may_leave day.now.pages log.file }
+    {
         let mut guard = self.desk.lock(rt);
         let desk = &mut *guard;
-        desk.begin_journal(log)
-    }
-
-    /// `None` where the history has just the events and the batches of this day; else how many batches are the same
-    /// before the first that differs. It waits for the lock.
-    pub fn first_other(&self, rt: &impl Wait, day: &History) -> Option<u64> {
-        let guard = self.desk.lock(rt);
-        let desk = &*guard;
-        desk.first_other(day)
+        desk.go_on(log, day)
     }
 
     /// A round, and the outlets that it told something: nobody's bell rings, and nothing is written. For who steps a
@@ -351,8 +358,9 @@ impl<K: DeskName, S: BuildHasher + Drop> Shared<K, S> {
     /// Ends the desk: steps what is left of what finished inlets put, and gives the history and the settings.
     ///
     /// Of each inlet that is handed in the history has just what was put, and each outlet took a beginning of what the
-    /// history tells it. Where memory is refused, all is given back, with the steps made so far: the call may be made
-    /// again.
+    /// history tells it; where there is a journal, a beginning of what the day tells it that each crash leaves in the
+    /// file, whether the file has all or was lost. Where memory is refused, all is given back, with the steps made so
+    /// far: the call may be made again.
     pub fn close(
         self,
         alloc: Global,
@@ -361,6 +369,7 @@ impl<K: DeskName, S: BuildHasher + Drop> Shared<K, S> {
         ensures holds { IfOk result (λ closed. Holds closed.settings (turns closed.history)) }
         ensures settled { IfOk result (λ closed. AreSettled finished.items closed.history) }
         ensures named { IfOk result (λ closed. AreNamed K.inlets closed.history.events) }
+        ensures told { IfOk result (λ closed. ToldIsKept finished.items closed.journal) }
         ensures err { IfErr result (λ e. e.2.items ≡ finished.items) }
     {
         let Shared {
@@ -431,7 +440,9 @@ fn end_journal<K: DeskName, S: BuildHasher + Drop>(
     desk: &mut Desk<K, S>,
     alloc: Global,
 ) -> Result<Option<LogFault>, AllocError>
-    ensures { desk.new.recorded ≡ desk.old.recorded }
+    ensures recorded { desk.new.recorded ≡ desk.old.recorded }
+    ensures released { (finished : List Done) → AreReleased finished desk.old.side.ways
+        → AreReleased finished desk.new.side.ways }
 {
     let kept = match desk.keep(alloc) {
         Ok(()) => desk.end_journal(),

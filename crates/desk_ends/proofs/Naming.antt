@@ -44,7 +44,7 @@ pub seat-stays : (a : SeatState) → SeatLooked a a
 seat-stays a = (refl, refl, ([], append-nil a.known))
 
 pub way-stays : (w : WayState) → WayLooked w w
-way-stays w = (refl, refl, refl, omega arith)
+way-stays w = (refl, refl, refl, omega arith, refl, refl)
 
 pub seats-stay : (seats : List SeatState) → SeatsLooked seats seats
 seats-stay seats = record { count = refl; each = λ k a at. (a, at, seat-stays a) }
@@ -67,9 +67,10 @@ put-told inlets outlets at source f seats new ways names is looked all =
 pub took-told : (inlets : List NamedInlet) (outlets : List NamedOutlet) (at : ℕ) (to : Recipient) (c : Consumer (List LinkOut) Global AnyItems)
     (ways new : List WayState) (seats : List SeatState) → map way_name ways ≡ outlets → IsNamedEnd inlets outlets at (Took to c)
     → WaysLooked ways new → ((w : WayState) → slice_get new at ≡ Some w → IsPrefix (received c) w.sent)
+    → ((w : WayState) → slice_get new at ≡ Some w → IsPrefix (received c) w.released)
     → IsBorneOut (done_of at (Took to c)) seats new
-took-told inlets outlets at to c ways new seats names is looked prefix =
+took-told inlets outlets at to c ways new seats names is looked prefix released =
     let name : NamedOutlet = record { to = to; ring = consumer_ring c } in
     let w = named way_name ways outlets at name names is in
     let v = looked.each at w.0 w.1 in
-    (v.0, v.1, ap (λ (n : NamedOutlet). n.to) (v.2.0 ∙ w.2), prefix v.0 v.1)
+    (v.0, v.1, ap (λ (n : NamedOutlet). n.to) (v.2.0 ∙ w.2), prefix v.0 v.1, released v.0 v.1)

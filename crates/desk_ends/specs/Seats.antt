@@ -14,11 +14,14 @@ pub record SeatState : Type 0 where
   pub gave : List Event
   pub known : List Event
 
--- a way: every list that went into the ring, for how many more it knows room, and whether it is cut: then a list for
--- its recipient went into no ring, and none goes in any more
+-- a way: every list that was sent by it, those of them that were released into the ring, whether lists wait beside the
+-- ring until then, for how many more it knows room, and whether it is cut: then a list for its recipient was sent by no
+-- way, and none is any more
 pub record WayState : Type 0 where
   pub name : NamedOutlet
   pub sent : List (List LinkOut)
+  pub released : List (List LinkOut)
+  pub stages : Bool
   pub free : ℕ
   pub cut : Bool
 
@@ -39,15 +42,32 @@ SeatGave e a b = (b.name ≡ a.name) × (b.gave ≡ a.gave ++ e ∷ []) × (a.kn
 -- a way that looked may know of more room
 abbrev pub WayLooked : WayState → WayState → Type 0
 WayLooked w v = (v.name ≡ w.name) × (v.sent ≡ w.sent) × (v.cut ≡ w.cut) × (w.free ≤ v.free)
+    × (v.released ≡ w.released) × (v.stages ≡ w.stages)
+
+-- a way that may stage from now on
+abbrev pub WayMayStage : WayState → WayState → Type 0
+WayMayStage w v = (v.name ≡ w.name) × (v.sent ≡ w.sent) × (v.cut ≡ w.cut) × (w.free ≤ v.free)
+    × (v.released ≡ w.released) × (w.stages ≡ true → v.stages ≡ true)
+
+-- a way that stages: what was released is a beginning of what was sent
+abbrev pub IsStaging : WayState → Type 0
+IsStaging w = (w.stages ≡ true) × IsPrefix w.released w.sent
+
+-- a way of which more may be released
+abbrev pub WayMayRelease : WayState → WayState → Type 0
+WayMayRelease w v = (v.name ≡ w.name) × (v.sent ≡ w.sent) × (v.cut ≡ w.cut) × (w.free ≤ v.free)
+    × (v.stages ≡ w.stages)
 
 -- Lists were for a way. It took them, or it is cut and took none; it isn't cut by them where it knew of room, nor where
--- there were none. It knows of room for one list less at the worst.
+-- there were none. It knows of room for one list less at the worst. Where it stages none is released.
 pub record WaySent (lists : List (List LinkOut)) (w v : WayState) : Type 0 where
   pub name : v.name ≡ w.name
   pub whole : v.cut ≡ false → (w.cut ≡ false) × (v.sent ≡ w.sent ++ lists)
   pub lost : v.cut ≡ true → v.sent ≡ w.sent
   pub stays : ((0 < w.free) ⊎ (lists ≡ [])) → v.cut ≡ w.cut
   pub takes : w.free ≤ v.free + 1
+  pub stages : v.stages ≡ w.stages
+  pub waits : w.stages ≡ true → v.released ≡ w.released
 
 -- a way has room for so many lists, or is cut: then it needs none
 abbrev pub KnowsRoom : ℕ → WayState → Type 0
@@ -68,11 +88,32 @@ pub record WaysLooked (old new : List WayState) : Type 0 where
   pub each : (d : ℕ) (w : WayState) → slice_get old d ≡ Some w → (v : WayState) × (slice_get new d ≡ Some v)
       × WayLooked w v
 
+-- each way may stage from now on
+pub record WaysMayStage (old new : List WayState) : Type 0 where
+  pub count : length new ≡ length old
+  pub each : (d : ℕ) (w : WayState) → slice_get old d ≡ Some w → (v : WayState) × (slice_get new d ≡ Some v)
+      × WayMayStage w v
+
+-- each way stages
+abbrev pub AllStage : List WayState → Type 0
+AllStage ways = (d : ℕ) (w : WayState) → slice_get ways d ≡ Some w → IsStaging w
+
+-- more may be released of each way
+pub record WaysMayRelease (old new : List WayState) : Type 0 where
+  pub count : length new ≡ length old
+  pub each : (d : ℕ) (w : WayState) → slice_get old d ≡ Some w → (v : WayState) × (slice_get new d ≡ Some v)
+      × WayMayRelease w v
+
+-- all that was sent by each way is released
+abbrev pub AllReleased : List WayState → Type 0
+AllReleased ways = (d : ℕ) (w : WayState) → slice_get ways d ≡ Some w → w.released ≡ w.sent
+
 -- What an end that has finished says is what the desk's end of its ring knows: an inlet put what came out and what is
--- known to lie there still, and an outlet took a beginning of what went in.
+-- known to lie there still, and an outlet took a beginning of what was sent, and of what was released.
 abbrev pub IsBorneOut : Done → List SeatState → List WayState → Type 0
 IsBorneOut (put_at k source events) seats ways =
     (a : SeatState) × (slice_get seats k ≡ Some a) × (a.name.source ≡ source)
     × (a.gave ++ a.known ≡ events) × (events_from source events ≡ events)
 IsBorneOut (took_at d to lists) seats ways =
     (w : WayState) × (slice_get ways d ≡ Some w) × (w.name.to ≡ to) × IsPrefix lists w.sent
+    × IsPrefix lists w.released

@@ -114,6 +114,8 @@ fn look_beside(ways: &mut Vec<Way>, at: usize, took: &mut Consumer<Told>)
     ensures looked { WaysLooked ways.old.items ways.new.items }
     ensures took { (consumer_ring took.new ≡ consumer_ring took.old) × (received took.new ≡ received took.old) }
     ensures prefix { (w : WayState) → slice_get ways.new.items at ≡ Some w → IsPrefix (received took.old) w.sent }
+    ensures released { (w : WayState) → slice_get ways.new.items at ≡ Some w
+        → IsPrefix (received took.old) w.released }
 {
     ways[at].look_beside(took);
 }

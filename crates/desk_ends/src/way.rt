@@ -16,8 +16,9 @@ use std::marker::Model;
 /// It is cut once a list found no room: that list and each later one stand in the history alone, so what comes out of
 /// the queue stays a beginning of what there was.
 ///
-/// A way that stages keeps lists beside its ring, where nobody can take them, until they are released: then they go
-/// into the ring, in their order. Contracts see what is staged as what went in, and its places as no longer free.
+/// A way that stages keeps lists beside its queue, where nobody can take them, until they are released: then they go
+/// into the queue, in their order. Contracts see what is staged as sent and not yet released, and its places as no
+/// longer free.
 #[derive(Drop)]
 pub struct Way {
     to: Recipient,
@@ -43,23 +44,26 @@ impl Model for Way {
     ghost view = { λ w. record {
       name = record { to = w.to; ring = producer_ring w.producer };
       sent = sent w.producer ++ w.staged.items;
+      released = sent w.producer;
+      stages = w.stages;
       free = known_free w.producer - deque_len w.staged;
       cut = w.cut;
     } };
 }
 
 impl Way {
-    ghost use Rattle.std.specs.Prelude.{◌≡◌, ◌≤◌, ◌↔◌, IsTrue, false, if◌then◌else◌};
+    ghost use Rattle.std.specs.Prelude.{◌≡◌, ◌≤◌, ◌↔◌, IsTrue, OnOk, false, if◌then◌else◌};
     ghost use mathlib.Core.List.{IsPrefix};
     ghost use Rattle.rtrb.specs.Ring.{sent, known_free, received};
     ghost use Rattle.gate_events.specs.Sources.{unless_empty};
     ghost use Rattle.desk_ends.specs.Rings.{consumer_ring, producer_ring};
-    ghost use Rattle.desk_ends.specs.Seats.{WayLooked, WaySent};
+    ghost use Rattle.desk_ends.specs.Seats.{IsStaging, WayLooked, WayMayRelease, WayMayStage, WaySent};
 
     /// The end of a queue to a recipient. It isn't cut, and stages nothing. Takes no memory.
     pub fn new(alloc: Global, to: Recipient, producer: Producer<Told>) -> Way
         ensures name { result.name ≡ record { to = to; ring = producer_ring producer } }
         ensures lists { (result.sent ≡ sent producer) × (result.free ≡ known_free producer) }
+        ensures released { (result.released ≡ sent producer) × (result.stages ≡ false) }
         ensures whole { result.cut ≡ false }
     {
         Way {
@@ -74,7 +78,8 @@ impl Way {
     /// From now on it stages the lists that it is sent. `AllocError` leaves it as it was; the room for what is staged
     /// is taken here, so that no list takes memory.
     pub fn stage(&mut self) -> Result<(), AllocError>
-        ensures { self.new ≡ self.old }
+        ensures same { WayMayStage self.old self.new }
+        ensures stages { OnOk result (IsStaging self.new) }
     {
         let capacity = self.producer.capacity();
         self.staged.reserve(capacity)?;
@@ -84,12 +89,11 @@ impl Way {
 
     /// Moves what is staged into the queue, in its order. Takes no memory.
     pub fn release(&mut self)
-        ensures { WayLooked self.old self.new }
+        ensures same { WayMayRelease self.old self.new }
+        ensures all { self.new.released ≡ self.new.sent }
     {
-        for _ in 0..self.staged.len() {
-            if let Some(told) = self.staged.pop_front() {
-                self.producer.push_reserved(told);
-            }
+        while let Some(told) = self.staged.pop_front() {
+            self.producer.push_reserved(told);
         }
     }
 
@@ -152,6 +156,7 @@ impl Way {
         ensures looked { WayLooked self.old self.new }
         ensures took { (consumer_ring took.new ≡ consumer_ring took.old) × (received took.new ≡ received took.old) }
         ensures prefix { IsPrefix (received took.old) self.new.sent }
+        ensures released { IsPrefix (received took.old) self.new.released }
     {
         took.slots_beside(&mut self.producer);
     }

@@ -1,11 +1,12 @@
 -- What becomes of lists whose elements changed.
-use Rattle.std.proofs.Common.{◌≡◌, ℕ, zero, suc, ◌<◌, List, [], ◌∷◌, ◌++◌, length, map, Some, slice_get, slice_set, get_or, refl, ap, sym, ◌∙◌, subst, arith, inl, inr, append_assoc}
+use Rattle.std.proofs.Common.{◌≡◌, ℕ, zero, suc, ◌+◌, ◌<◌, List, [], ◌∷◌, ◌++◌, length, map, Some, slice_get, slice_set, get_or, refl, ap, sym, ◌∙◌, subst, arith, inl, inr, append_assoc}
 use Rattle.std.proofs.lemmas.Bool.Decides.{eqb_tells}
 use Rattle.std.proofs.lemmas.Option.{slice_get-get_or, slice_get_within}
 use Rattle.std.proofs.lemmas.List.{append-nil}
 use mathlib.Core.List.{IsPrefix}
-use Rattle.desk_ends.specs.Seats.{WayState, WaysLooked}
-use Rattle.desk_ends.proofs.Places.{get-inside, get-same, get-set-other, get-set-same, length-set}
+use Rattle.desk_ends.specs.Seats.{WayLooked, WayMayRelease, WayMayStage, WayState, WaysLooked, WaysMayRelease, WaysMayStage}
+use Rattle.desk_ends.proofs.Naming.{way-stays}
+use Rattle.desk_ends.proofs.Places.{each-set, get-inside, get-same, get-set-other, get-set-same, length-set}
 use Rattle.desk_side.specs.Side.{ChangesAt}
 
 -- what is the same of each element is the same of all
@@ -80,5 +81,60 @@ pub ways-twice : (x y z : List WayState) → WaysLooked x y → WaysLooked y z �
 ways-twice x y z p q = record {
   count = q.count ∙ p.count;
   each = λ d w at. let v = p.each d w at in let u = q.each d v.0 v.1 in
-      (u.0, u.1, (u.2.0 ∙ v.2.0, u.2.1 ∙ v.2.1, u.2.2 ∙ v.2.2, omega (arith, v.2.3, u.2.3)));
+      (u.0, u.1, (u.2.0 ∙ v.2.0, u.2.1 ∙ v.2.1, u.2.2 ∙ v.2.2, omega (arith, v.2.3, u.2.3), u.2.4 ∙ v.2.4, u.2.5 ∙ v.2.5));
 }
+
+-- ---- ways that stage, and that release
+
+pub way-may-stage : (w : WayState) → WayMayStage w w
+way-may-stage w = (refl, refl, refl, omega arith, refl, λ so. so)
+
+pub ways-may-stage : (ways : List WayState) → WaysMayStage ways ways
+ways-may-stage ways = record { count = refl; each = λ d w at. (w, at, way-may-stage w) }
+
+pub stage-twice : (x y z : List WayState) → WaysMayStage x y → WaysMayStage y z → WaysMayStage x z
+stage-twice x y z p q = record {
+  count = q.count ∙ p.count;
+  each = λ d w at. let v = p.each d w at in let u = q.each d v.0 v.1 in
+      (u.0, u.1, (u.2.0 ∙ v.2.0, u.2.1 ∙ v.2.1, u.2.2 ∙ v.2.2, omega (arith, v.2.3, u.2.3), u.2.4 ∙ v.2.4, λ so. u.2.5 (v.2.5 so)));
+}
+
+pub way-may-release : (w : WayState) → WayMayRelease w w
+way-may-release w = (refl, refl, refl, omega arith, refl)
+
+pub ways-may-release : (ways : List WayState) → WaysMayRelease ways ways
+ways-may-release ways = record { count = refl; each = λ d w at. (w, at, way-may-release w) }
+
+pub release-twice : (x y z : List WayState) → WaysMayRelease x y → WaysMayRelease y z → WaysMayRelease x z
+release-twice x y z p q = record {
+  count = q.count ∙ p.count;
+  each = λ d w at. let v = p.each d w at in let u = q.each d v.0 v.1 in
+      (u.0, u.1, (u.2.0 ∙ v.2.0, u.2.1 ∙ v.2.1, u.2.2 ∙ v.2.2, omega (arith, v.2.3, u.2.3), u.2.4 ∙ v.2.4));
+}
+
+-- ---- loops over ways
+
+-- what holds of the first so many and of the next holds of one more
+pub so-far : {A : Type 0} (Q : A → Type 0) (xs : List A) (i : ℕ) (y : A) → i < length xs → ((d : ℕ) (w : A) → d < i → slice_get xs d ≡ Some w → Q w) → Q y
+    → (d : ℕ) (w : A) → d < i + 1 → slice_get (slice_set xs i y) d ≡ Some w → Q w
+so-far {A} Q xs i y inside before q d w lt at =
+    elim (eqb_tells d i) [
+      | inl e ↦ set-here Q xs i y w inside (subst (λ (j : ℕ). slice_get (slice_set xs i y) j ≡ Some w) e.1 at) q
+      | inr e ↦ before d w (omega (arith, lt, e.1)) (sym (get-set-other xs i d y e.1) ∙ at)
+    ]
+
+-- one way more looked, may stage, or may release
+pub look-set : (old ways : List WayState) (i : ℕ) (x y : WayState) → WaysLooked old ways → i < length ways → x ≡ get_or ways i x → WayLooked x y → WaysLooked old (slice_set ways i y)
+look-set old ways i x y so inside is look =
+    ways-twice old ways (slice_set ways i y) so
+    (record { count = length-set ways i y; each = each-set WayLooked ways i x y inside way-stays (subst (λ (z : WayState). WayLooked z y) is look) })
+
+pub stage-set : (old ways : List WayState) (i : ℕ) (x y : WayState) → WaysMayStage old ways → i < length ways → x ≡ get_or ways i x → WayMayStage x y → WaysMayStage old (slice_set ways i y)
+stage-set old ways i x y so inside is stage =
+    stage-twice old ways (slice_set ways i y) so
+    (record { count = length-set ways i y; each = each-set WayMayStage ways i x y inside way-may-stage (subst (λ (z : WayState). WayMayStage z y) is stage) })
+
+pub release-set : (old ways : List WayState) (i : ℕ) (x y : WayState) → WaysMayRelease old ways → i < length ways → x ≡ get_or ways i x → WayMayRelease x y → WaysMayRelease old (slice_set ways i y)
+release-set old ways i x y so inside is release =
+    release-twice old ways (slice_set ways i y) so
+    (record { count = length-set ways i y; each = each-set WayMayRelease ways i x y inside way-may-release (subst (λ (z : WayState). WayMayRelease z y) is release) })

@@ -1,6 +1,7 @@
 -- What ways know of room, after looks and lists.
 use Rattle.std.proofs.Common.{◌≡◌, ◌≤◌, ◌-◌, ℕ, Bool, true, false, List, refl, ◌∙◌, arith, inl, inr}
-use Rattle.desk_ends.specs.Seats.{KnowsRoom, WayState, WayLooked, WaySent, WaysLooked}
+use Rattle.desk_ends.specs.Seats.{KnowsRoom, WayState, WayLooked, WayMayRelease, WayMayStage, WaySent, WaysLooked, WaysMayRelease, WaysMayStage}
+use Rattle.std.specs.Prelude.{if◌then◌else◌}
 use Rattle.gate_events.specs.Sources.{unless_empty}
 use Rattle.desk_side.specs.declared.said.Said.{Said}
 use Rattle.desk_side.specs.Said.{list_for}
@@ -35,3 +36,27 @@ pub told-room : (n : ℕ) (said : Said) (old new : List WayState) → Tells said
 told-room n said old new tells all d v at =
     let w = come-to (λ (a b : WayState). WaySent (unless_empty (list_for a.name.to said)) a b) old new tells.count tells.each d v at in
     sent-room n (unless_empty (list_for w.0.name.to said)) w.0 v w.2 (all d w.0 w.1)
+
+-- ---- ways that stage, and that release
+
+keeps-room : (n : ℕ) (w v : WayState) → v.cut ≡ w.cut → w.free ≤ v.free → KnowsRoom n w → KnowsRoom n v
+keeps-room n w v cut free (inl is) = inl (cut ∙ is)
+keeps-room n w v cut free (inr room) = inr (omega (arith, free, room))
+
+pub stage-room : (n : ℕ) (old new : List WayState) → WaysMayStage old new → AllKnowRoom n old → AllKnowRoom n new
+stage-room n old new same all d v at =
+    let w = come-to WayMayStage old new same.count same.each d v at in
+    keeps-room n w.0 v w.2.2 w.2.3 (all d w.0 w.1)
+
+pub release-room : (n : ℕ) (old new : List WayState) → WaysMayRelease old new → AllKnowRoom n old → AllKnowRoom n new
+release-room n old new same all d v at =
+    let w = come-to WayMayRelease old new same.count same.each d v at in
+    keeps-room n w.0 v w.2.2 w.2.3 (all d w.0 w.1)
+
+-- as much as a way knows
+pub least-room : (n : ℕ) (w : WayState) → n ≡ (if w.cut then 18446744073709551615 else w.free) → KnowsRoom n w
+least-room n w is = by_cut w.cut refl is
+  where
+    by_cut : (b : Bool) → w.cut ≡ b → n ≡ (if b then 18446744073709551615 else w.free) → KnowsRoom n w
+    by_cut true cut is = inl cut
+    by_cut false cut is = inr (omega (arith, is))

@@ -34,6 +34,8 @@ way-stays w = record {
   lost = λ so. refl;
   stays = λ either. refl;
   takes = omega arith;
+  stages = refl;
+  waits = λ so. refl;
 }
 
 -- a way that isn't full has room, or is cut

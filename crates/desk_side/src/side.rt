@@ -55,8 +55,9 @@ impl Model for Side {
 }
 
 impl Side {
-    ghost use Rattle.std.specs.Prelude.{◌≡◌, ◌<◌, ◌+◌, ℕ, true, false, Some, length, map, slice_get};
+    ghost use Rattle.std.specs.Prelude.{◌≡◌, ◌<◌, ◌+◌, ℕ, true, false, OnOk, Some, length, map, slice_get};
     ghost use Rattle.desk_ends.specs.Seats.{SeatState, SeatGave, SeatLooked, SeatsLooked, SeatsStayBut, WaysLooked};
+    ghost use Rattle.desk_ends.specs.Seats.{AllReleased, AllStage, WaysMayRelease, WaysMayStage};
     ghost use Rattle.desk_ends.specs.Seats.{IsBorneOut, seat_name, way_name};
     ghost use Rattle.desk_ends.specs.Ends.{inlet_of};
     ghost use Rattle.desk_side.specs.Side.{AllKnowRoom, ChangesAt, HaveRoom, IsArranged, LacksRoom, Tells};
@@ -194,7 +195,10 @@ impl Side {
     /// From now on output waits beside the queues until it is released. `AllocError` leaves some ways as they were: it
     /// may be called again.
     pub fn stage(&mut self) -> Result<(), AllocError>
-        ensures { self.new ≡ self.old }
+        ensures seats { self.new.seats ≡ self.old.seats }
+        ensures ways { WaysMayStage self.old.ways self.new.ways }
+        ensures counts { (self.new.clients ≡ self.old.clients) × (self.new.ports ≡ self.old.ports) }
+        ensures stages { OnOk result (AllStage self.new.ways) }
     {
         stage_each(&mut self.ways)
     }
@@ -202,8 +206,9 @@ impl Side {
     /// Moves what waits beside the queues into them. Takes no memory.
     pub fn release(&mut self)
         ensures seats { self.new.seats ≡ self.old.seats }
-        ensures ways { WaysLooked self.old.ways self.new.ways }
+        ensures ways { WaysMayRelease self.old.ways self.new.ways }
         ensures counts { (self.new.clients ≡ self.old.clients) × (self.new.ports ≡ self.old.ports) }
+        ensures all { AllReleased self.new.ways }
     {
         release_each(&mut self.ways);
     }

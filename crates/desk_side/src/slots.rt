@@ -1,8 +1,9 @@
 //! Calls on the seat or way at a place.
 
-ghost use Rattle.std.specs.Prelude.{◌≡◌, ◌<◌, ◌≤◌, ◌⊎◌, ℕ, true, false, Some, None, length, slice_get, IfSome};
+ghost use Rattle.std.specs.Prelude.{◌≡◌, ◌<◌, ◌≤◌, ◌⊎◌, ℕ, true, false, Some, None, length, slice_get, IfSome, OnOk};
 ghost use Rattle.gate_events.specs.Sources.{unless_empty};
-ghost use Rattle.desk_ends.specs.Seats.{SeatState, SeatGave, SeatLooked, WayState, WaySent, WaysLooked};
+ghost use Rattle.desk_ends.specs.Seats.{AllReleased, AllStage, SeatState, SeatGave, SeatLooked, WayState, WaySent};
+ghost use Rattle.desk_ends.specs.Seats.{WaysLooked, WaysMayRelease, WaysMayStage};
 ghost use Rattle.desk_side.specs.Side.{AllKnowRoom, ChangesAt};
 
 use desk_ends::{Seat, Way};
@@ -70,7 +71,8 @@ pub(crate) fn send_at(ways: &mut Vec<Way>, place: Option<usize>, told: Told)
 /// From now on each way stages what it is sent. `AllocError` leaves some of them as they were, and none changed in what
 /// it has.
 pub(crate) fn stage_each(ways: &mut Vec<Way>) -> Result<(), AllocError>
-    ensures { ways.new.items ≡ ways.old.items }
+    ensures same { WaysMayStage ways.old.items ways.new.items }
+    ensures stages { OnOk result (AllStage ways.new.items) }
 {
     for place in 0..ways.len() {
         ways[place].stage()?;
@@ -80,7 +82,8 @@ pub(crate) fn stage_each(ways: &mut Vec<Way>) -> Result<(), AllocError>
 
 /// Moves what is staged for each way into its queue. Takes no memory.
 pub(crate) fn release_each(ways: &mut Vec<Way>)
-    ensures { WaysLooked ways.old.items ways.new.items }
+    ensures same { WaysMayRelease ways.old.items ways.new.items }
+    ensures all { AllReleased ways.new.items }
 {
     for place in 0..ways.len() {
         ways[place].release();

@@ -53,7 +53,7 @@ told-stays : (f g : Done) (old new : List SeatState) (ways more : List WayState)
     → IsBegun g old → IsBorneOut g new more → IsBorneOut f old ways → IsBorneOut f new more
 told-stays (took_at d to lists) g old new ways more l stay m begun here told =
     let r = m.each d told.0 told.1 in
-    (r.0, r.1, ap (λ (n : NamedOutlet). n.to) r.2.0 ∙ told.2, subst (λ z. IsPrefix lists z) (sym r.2.1) told.3)
+    (r.0, r.1, ap (λ (n : NamedOutlet). n.to) r.2.0 ∙ told.2, subst (λ z. IsPrefix lists z) (sym r.2.1) told.3, subst (λ z. IsPrefix lists z) (sym r.2.4) told.4)
 told-stays (put_at k source events) (took_at d to lists) old new ways more l stay m begun here told =
     (told.0, stay k (λ e. absurd (cc e)) ∙ told.1, told.2, told.3, told.4)
 told-stays (put_at k source events) (put_at j other all) old new ways more l stay m begun here told =
@@ -113,7 +113,7 @@ pub seats-same : (x : List SeatState) → SeatsLooked x x
 seats-same x = record { count = refl; each = λ k a at. (a, at, (refl, refl, prefix-same a.known)) }
 
 pub ways-same : (x : List WayState) → WaysLooked x x
-ways-same x = record { count = refl; each = λ d w at. (w, at, (refl, refl, refl, omega arith)) }
+ways-same x = record { count = refl; each = λ d w at. (w, at, (refl, refl, refl, omega arith, refl, refl)) }
 
 pub seat-names : (old new : List SeatState) (names : List NamedInlet) → SeatsLooked old new → map seat_name old ≡ names → map seat_name new ≡ names
 seat-names old new names l is = each-same seat_name old new l.count (λ k a at. let r = l.each k a at in (r.0, r.1, r.2.0)) ∙ is

@@ -10,7 +10,9 @@ use Rattle.gate_events.specs.declared.event.Event.{Event}
 use Rattle.gate_events.specs.declared.source.Recipient.{Recipient}
 use Rattle.gate_events.specs.declared.source.Source.{Source}
 use Rattle.gate_events.specs.Sources.{events_from, lists_to}
+use Rattle.gate_journal.specs.Cut.{IsMoreOf, with_records}
 use Rattle.gate_journal.specs.Kept.{lists_kept}
+use Rattle.journal_days.proofs.Cutting.{records-both}
 use Rattle.desk_steps.specs.Recorded.{IsKeptStep, Recorded}
 use Rattle.desk_side.specs.desk_ends.Rings.{Done, put_at, took_at, NamedInlet, NamedOutlet}
 use Rattle.desk_side.specs.desk_ends.Ends.{inlet_of}
@@ -20,30 +22,44 @@ use Rattle.desk_side.proofs.desk_ends.Places.{get-inside, get-same}
 use Rattle.desk_side.specs.Side.{ChangesAt, SideState}
 use Rattle.desk_steps.specs.Agreeing.{Agrees, DeskState}
 use Rattle.desk_steps.specs.Settling.{AreDrained, AreSettled, AreTold, HistoryGoesOn, IsSettled, KnowsNone}
-use Rattle.desk_steps.specs.Settling.{SeatShrinks, Shrinks}
+use Rattle.desk_steps.specs.Settling.{SeatShrinks, Shrinks, WaysHold}
 use Rattle.desk_steps.specs.Turning.{Drops, StepsFirst}
 use Rattle.desk_side.proofs.Moves.{come-to, each-change, prefix-more, prefix-same, prefix-trans}
 use Rattle.desk_steps.proofs.Keeping.{SameOwn, agrees-kept, drops-agree, way-looks}
 use Rattle.desk_steps.proofs.OneMore.{lists-append, steps-agree}
 use Rattle.desk_steps.proofs.Comparing.{empty-list, prefix-whole}
+use Rattle.desk_steps.proofs.Holding.{drops-hold, steps-hold}
 
 -- ---- the history
 
 pub goes-nowhere : (r : Recorded) → HistoryGoesOn r r
-goes-nowhere r = record { settings = refl; events = prefix-same r.kept.events; batches = prefix-same r.kept.batches }
+goes-nowhere r = record {
+  settings = refl;
+  events = prefix-same r.kept.events;
+  batches = prefix-same r.kept.batches;
+  pages = record { records = []; same = refl };
+}
+
+pub more-twice : (a b c : List (List ℕ)) → IsMoreOf a b → IsMoreOf b c → IsMoreOf a c
+more-twice a b c p q = record {
+  records = p.records ++ q.records;
+  same = q.same ∙ ap (λ (pages : List (List ℕ)). with_records pages q.records) p.same ∙ records-both a p.records q.records;
+}
 
 pub goes-further : (a b c : Recorded) → HistoryGoesOn a b → HistoryGoesOn b c → HistoryGoesOn a c
 goes-further a b c p q = record {
   settings = q.settings ∙ p.settings;
   events = prefix-trans a.kept.events b.kept.events c.kept.events p.events q.events;
   batches = prefix-trans a.kept.batches b.kept.batches c.kept.batches p.batches q.batches;
+  pages = more-twice a.kept.pages b.kept.pages c.kept.pages p.pages q.pages;
 }
 
-step-goes : (e : Event) (said : _) (a b : Recorded) → IsKeptStep e said a b → HistoryGoesOn a b
+pub step-goes : (e : Event) (said : _) (a b : Recorded) → IsKeptStep e said a b → HistoryGoesOn a b
 step-goes e said a b s = record {
   settings = s.settings;
   events = (e ∷ [], sym s.events);
   batches = (s.batch ∷ [], sym s.batches);
+  pages = s.pages;
 }
 
 -- what is told grows with the batches
@@ -163,6 +179,10 @@ drained-agree inlets outlets k s t (inr x) h = drops-agree inlets outlets k s t 
 pub drained-goes : (k : ℕ) (s t : DeskState) → (StepsFirst k s t ⊎ Drops k s t) → HistoryGoesOn s.recorded t.recorded
 drained-goes k s t (inl x) = step-goes x.event x.said s.recorded t.recorded x.step
 drained-goes k s t (inr x) = subst (HistoryGoesOn s.recorded) (sym x.recorded) (goes-nowhere s.recorded)
+
+pub drained-holds : (k : ℕ) (s t : DeskState) → (StepsFirst k s t ⊎ Drops k s t) → WaysHold s.side.ways t.side.ways
+drained-holds k s t (inl x) = steps-hold k s t x
+drained-holds k s t (inr x) = drops-hold k s t x
 
 pub drained-shrinks : (k : ℕ) (s t : DeskState) → (StepsFirst k s t ⊎ Drops k s t) → Shrinks s.side.seats t.side.seats
 drained-shrinks k s t (inl x) = pop-shrinks k x.event s.side.seats t.side.seats x.seats

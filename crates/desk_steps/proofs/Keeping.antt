@@ -87,10 +87,12 @@ looks-agree inlets outlets k s t h l =
 
 -- what was told may lie elsewhere now, and there may be more room
 pub ways-agree : (inlets : List NamedInlet) (outlets : List NamedOutlet) (r : Recorded) (s t : SideState) → Agrees inlets outlets (record { recorded = r; side = s })
-    → t.seats ≡ s.seats → WaysLooked s.ways t.ways → Agrees inlets outlets (record { recorded = r; side = t })
-ways-agree inlets outlets r s t h seats ways =
+    → t.seats ≡ s.seats → length t.ways ≡ length s.ways
+    → ((d : ℕ) (w : WayState) → slice_get s.ways d ≡ Some w → (v : WayState) × (slice_get t.ways d ≡ Some v) × SameWay w v)
+    → Agrees inlets outlets (record { recorded = r; side = t })
+ways-agree inlets outlets r s t h seats count ways =
     agrees-kept inlets outlets (record { recorded = r; side = s }) (record { recorded = r; side = t }) h refl (ap length seats)
-    (λ k a at. (a, ap (λ (z : List SeatState). slice_get z k) seats ∙ at, own-stays a)) ways.count (way-looks s.ways t.ways ways)
+    (λ k a at. (a, ap (λ (z : List SeatState). slice_get z k) seats ∙ at, own-stays a)) count ways
 
 -- an event of another source is none of its own
 pub not-own : (source : Source) (e : Event) (events : List Event) → is_from source e ≡ false → events_from source (events ++ e ∷ []) ≡ events_from source events

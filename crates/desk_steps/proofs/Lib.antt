@@ -4,5 +4,7 @@ pub mod Keeping
 pub mod OneMore
 mod Cutting
 mod Comparing
-mod Draining
+mod Holding
+pub mod Draining
+pub mod Onward
 pub mod Sent

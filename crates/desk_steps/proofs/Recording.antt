@@ -5,7 +5,9 @@ use Rattle.gate_journal.specs.gate_law.Events.{Batch, History}
 use Rattle.gate_journal.specs.gate_law.Holds.{Holds}
 use Rattle.gate_events.specs.declared.event.Event.{Event}
 use Rattle.gate_core.specs.Core.{After, CoreState, IsAfter}
+use Rattle.gate_journal.specs.Cut.{IsMoreOf, with_records}
 use Rattle.gate_journal.specs.Kept.{Kept, kept_turn, turns}
+use Rattle.gate_journal.specs.Parts.{turn_records}
 use Rattle.desk_side.specs.declared.said.Said.{Said}
 use Rattle.desk_side.specs.Said.{IsSaid}
 use Rattle.desk_steps.specs.Recorded.{IsKeptStep, Recorded}
@@ -27,11 +29,12 @@ after-turns s h g c same after = subst (λ (z : History). IsAfter s z c) (sym sa
 pub step-is : (e : Event) (said : Said) (batch : Batch) (settings : Settings) (kept more : Kept) (old : Recorded)
     → record { settings = settings; kept = kept } ≡ old
     → more.events ≡ kept.events ++ e ∷ [] → more.batches ≡ kept.batches ++ batch ∷ []
+    → more.pages ≡ with_records kept.pages (turn_records e batch)
     → IsSaid batch said → Holds settings (kept_turn e batch ∷ turns kept)
     → IsKeptStep e said old (record { settings = settings; kept = more })
-step-is e said batch settings kept more old is events batches says holds =
+step-is e said batch settings kept more old is events batches pages says holds =
     subst (λ (z : Recorded). IsKeptStep e said z (record { settings = settings; kept = more })) is
-    (record { batch = batch; settings = refl; events = events; batches = batches; says = says; holds = holds })
+    (record { batch = batch; settings = refl; events = events; batches = batches; pages = record { records = turn_records e batch; same = pages }; says = says; holds = holds })
 
 -- what is refused changes nothing
 pub same-recorded : (settings : Settings) (kept more : Kept) (old : Recorded) → record { settings = settings; kept = kept } ≡ old → more ≡ kept

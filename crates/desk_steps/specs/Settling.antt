@@ -1,7 +1,10 @@
 -- What is known of ends that have finished, once a desk is closed. (Own.)
-use Rattle.std.specs.Prelude.{◌≡◌, ℕ, ◌≤◌, Some, slice_get, length, List, ◌++◌}
+use Rattle.std.specs.Prelude.{◌≡◌, ℕ, ◌≤◌, true, Some, slice_get, length, List, ◌++◌}
 use mathlib.Core.List.{IsPrefix}
+use Rattle.gate_journal.specs.gate_law.Events.{LinkOut}
+use Rattle.gate_events.specs.declared.source.Recipient.{Recipient}
 use Rattle.gate_events.specs.Sources.{events_from}
+use Rattle.gate_journal.specs.Cut.{IsMoreOf}
 use Rattle.gate_journal.specs.Kept.{Kept, lists_kept}
 use Rattle.desk_steps.specs.Recorded.{Recorded}
 use Rattle.desk_side.specs.desk_ends.Rings.{Done, put_at, took_at}
@@ -23,6 +26,24 @@ pub record HistoryGoesOn (old new : Recorded) : Type 0 where
   pub settings : new.settings ≡ old.settings
   pub events : IsPrefix old.kept.events new.kept.events
   pub batches : IsPrefix old.kept.batches new.kept.batches
+  pub pages : IsMoreOf old.kept.pages new.kept.pages
+
+-- a way that stages releases nothing
+abbrev pub WayHolds : WayState → WayState → Type 0
+WayHolds w v = (v.name ≡ w.name) × (v.stages ≡ w.stages) × (w.stages ≡ true → v.released ≡ w.released)
+    × IsPrefix w.sent v.sent
+
+pub record WaysHold (old new : List WayState) : Type 0 where
+  pub count : length new ≡ length old
+  pub each : (d : ℕ) (w : WayState) → slice_get old d ≡ Some w → (v : WayState) × (slice_get new d ≡ Some v)
+      × WayHolds w v
+
+-- what a finished outlet took is a beginning of what was released into its ring, where its way stages
+abbrev pub AreReleased : List Done → List WayState → Type 0
+AreReleased finished ways = (i d : ℕ) (to : Recipient) (lists : List (List LinkOut))
+    → slice_get finished i ≡ Some (took_at d to lists)
+    → (w : WayState) × (slice_get ways d ≡ Some w) × (w.name.to ≡ to)
+    × (w.stages ≡ true → IsPrefix lists w.released)
 
 -- ---- on the way there
 

@@ -8,7 +8,7 @@ ghost use Rattle.desk_side.specs.desk_ends.Ends.{inlet_of};
 ghost use Rattle.desk_side.specs.desk_ends.Seats.{SeatState, SeatsLooked, WaysLooked, seat_name, way_name};
 ghost use Rattle.desk_steps.specs.Agreeing.{Agrees};
 ghost use Rattle.desk_steps.specs.Settling.{AreBegun, AreDrained, AreSettled, AreTold, HistoryGoesOn, KnowsNone};
-ghost use Rattle.desk_steps.specs.Settling.{Shrinks};
+ghost use Rattle.desk_steps.specs.Settling.{AreReleased, Shrinks, WaysHold};
 ghost use Rattle.desk_steps.specs.Turning.{Drops, StepsFirst};
 
 use crate::recorded::RecordedCore;
@@ -72,6 +72,7 @@ fn drain<S: BuildHasher + Drop>(
         → Agrees inlets outlets (record { recorded = recorded.old; side = side.old })
         → Agrees inlets outlets (record { recorded = recorded.new; side = side.new }) }
     ensures goes_on { HistoryGoesOn recorded.old recorded.new }
+    ensures holds { WaysHold side.old.ways side.new.ways }
     ensures shrinks { Shrinks side.old.seats side.new.seats }
     ensures none { OnOk result (KnowsNone place side.new.seats) }
 {
@@ -94,6 +95,7 @@ fn drain_end<K: DeskName, S: BuildHasher + Drop>(
         → Agrees inlets outlets (record { recorded = recorded.old; side = side.old })
         → Agrees inlets outlets (record { recorded = recorded.new; side = side.new }) }
     ensures goes_on { HistoryGoesOn recorded.old recorded.new }
+    ensures holds { WaysHold side.old.ways side.new.ways }
     ensures shrinks { Shrinks side.old.seats side.new.seats }
     ensures none { OnOk result ((k : ℕ) → inlet_of finished.now ≡ Some k → KnowsNone k side.new.seats) }
 {
@@ -115,6 +117,7 @@ fn drain_all<K: DeskName, S: BuildHasher + Drop>(
         → Agrees inlets outlets (record { recorded = recorded.old; side = side.old })
         → Agrees inlets outlets (record { recorded = recorded.new; side = side.new }) }
     ensures goes_on { HistoryGoesOn recorded.old recorded.new }
+    ensures holds { WaysHold side.old.ways side.new.ways }
     ensures shrinks { Shrinks side.old.seats side.new.seats }
     ensures none { OnOk result (AreDrained finished.now.items side.new.seats) }
 {
@@ -137,6 +140,8 @@ pub fn settle<K: DeskName, S: BuildHasher + Drop>(
     ensures agrees { Agrees K.inlets K.outlets (record { recorded = recorded.new; side = side.new }) }
     ensures same { finished.new.items ≡ finished.old.items }
     ensures goes_on { HistoryGoesOn recorded.old recorded.new }
+    ensures holds { WaysHold side.old.ways side.new.ways }
+    ensures released { AreReleased finished.old.items side.new.ways }
     ensures settled { OnOk result (AreSettled finished.old.items recorded.new.kept) }
 {
     compare_all(side, finished);

@@ -78,6 +78,7 @@ pub fn close<K: DeskName>(
             Closed {
                 history,
                 settings: _,
+                journal: _,
                 lost: _,
             },
         ) => Ok(history),

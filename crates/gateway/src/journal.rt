@@ -1,59 +1,99 @@
-//! The journal of a day that is served.
+//! The journal of a day that is served, or that stopped and is ended.
 
-use super::out_of_memory;
-use gate_journal::History;
-use gateway_run::DayJournal;
-use host_log::{FoundLog, OpenFault, StoppedLog, open_log};
-use journal_file::{DayFile, Ending, FileFault, PageFault, read_file};
+use super::{out_of_memory, refused};
+use gateway_command::{Syncs, syncs_of};
+use gateway_run::{DayJournal, StoppedFault};
+use host_log::{FoundLog, OpenFault, StoppedLog, find_log, open_log};
 use std::process::ExitCode;
+
+/// The journal at a path, where one is named, synced as was said; or the status where it can't be had.
+pub(crate) fn journal_asked(
+    rt: &HostRuntime,
+    path: Option<&str>,
+    said: Option<&str>,
+) -> Result<Option<DayJournal>, ExitCode> {
+    let Some(syncs) = syncs_of(said) else {
+        return Err(refused(
+            rt,
+            "--sync is each, never, or milliseconds from 1ms to 60000ms",
+        ));
+    };
+    match path {
+        Some(path) => Ok(Some(journal_at(rt, path, syncs)?)),
+        None if said.is_some() => Err(refused(rt, "--sync is of a journal: --journal FILE")),
+        None => Ok(None),
+    }
+}
 
 /// The journal at a path: made new, or a day that stopped and goes on. It is locked as long as the gateway runs. The
 /// status where it can't be had: it is in use, is of a day that is over, or is damaged.
-pub(crate) fn journal_at(rt: &HostRuntime, path: &str) -> Result<DayJournal, ExitCode> {
+fn journal_at(rt: &HostRuntime, path: &str, syncs: Syncs) -> Result<DayJournal, ExitCode> {
     match open_log(rt, rt.alloc(), path) {
-        Ok(FoundLog::New(file)) => Ok(DayJournal {
-            file,
-            day: History::new(rt.alloc()),
-        }),
-        Ok(FoundLog::There(stopped)) => stopped_day(rt, path, stopped),
+        Ok(FoundLog::New(file)) => synced(rt, path, DayJournal::begun(rt.alloc(), file), syncs),
+        Ok(FoundLog::There(stopped)) => {
+            let journal = stopped_day(rt, path, stopped, "goes on")?;
+            synced(rt, path, journal, syncs)
+        }
         Err(fault) => Err(unopened(rt, path, fault)),
     }
 }
 
-/// A day that stopped, to go on behind what its file has.
-fn stopped_day(rt: &HostRuntime, path: &str, stopped: StoppedLog) -> Result<DayJournal, ExitCode> {
-    let (day, torn) = match read_file(rt.alloc(), stopped.bytes()) {
-        Ok(DayFile { day, ending }) => match ending {
-            Ending::GoesOn => (day, 0),
-            Ending::Torn(torn) => (day, torn),
-            Ending::Over => {
-                let _ = eprintln!(rt; "gateway: journal: {path}: the day is over");
-                return Err(ExitCode::from(2));
-            }
-        },
-        Err((_, FileFault::Page(PageFault::NoMemory))) => return Err(out_of_memory(rt)),
-        Err((page, fault)) => {
-            let _ = eprintln!(rt; "gateway: journal: {path}: page {page}: {fault}");
+/// The journal of a day that stopped and is ended: one that is there. The status as above.
+pub(crate) fn stopped_at(rt: &HostRuntime, path: &str) -> Result<DayJournal, ExitCode> {
+    match find_log(rt, rt.alloc(), path) {
+        Ok(stopped) => stopped_day(rt, path, stopped, "ends"),
+        Err(fault) => Err(unopened(rt, path, fault)),
+    }
+}
+
+/// A journal that is synced so.
+fn synced(
+    rt: &HostRuntime,
+    path: &str,
+    journal: DayJournal,
+    syncs: Syncs,
+) -> Result<DayJournal, ExitCode> {
+    let later = match syncs {
+        Syncs::Each => return Ok(journal),
+        Syncs::Every(milliseconds) => journal.synced_later(
+            rt.alloc(),
+            Some(u64::from(milliseconds)),
+        ),
+        Syncs::Never => journal.synced_later(rt.alloc(), None),
+    };
+    match later {
+        Ok(journal) => Ok(journal),
+        Err(fault) => Err(unopened(rt, path, fault)),
+    }
+}
+
+/// The journal of a day that stopped, behind what its file has of it. Tells what becomes of it, and what was cut off.
+fn stopped_day(
+    rt: &HostRuntime,
+    path: &str,
+    stopped: StoppedLog,
+    becomes: &str,
+) -> Result<DayJournal, ExitCode> {
+    let (journal, torn) = match DayJournal::of_stopped(rt.alloc(), stopped) {
+        Ok(journal) => journal,
+        Err(StoppedFault::NoMemory) => return Err(out_of_memory(rt)),
+        Err(StoppedFault::File(fault)) => return Err(unopened(rt, path, fault)),
+        Err(fault) => {
+            let _ = eprintln!(rt; "gateway: journal: {path}: {fault}");
             return Err(ExitCode::from(2));
         }
     };
-    let whole = stopped.bytes().len().saturating_sub(torn);
-    let events = match day.events(rt.alloc()) {
+    let events = match journal.day().events(rt.alloc()) {
         Ok(events) => events.len(),
         Err(_) => return Err(out_of_memory(rt)),
     };
-    match stopped.go_on(whole) {
-        Ok(file) => {
-            let _ = eprintln!(rt; "gateway: journal: {path} goes on behind {events} events");
-            if torn > 0 {
-                let _ = eprintln!(rt;
-                    "gateway: journal: {torn} bytes of a write that was cut short are cut off"
-                );
-            }
-            Ok(DayJournal { file, day })
-        }
-        Err(fault) => Err(unopened(rt, path, fault)),
+    let _ = eprintln!(rt; "gateway: journal: {path} {becomes} behind {events} events");
+    if torn > 0 {
+        let _ = eprintln!(rt;
+            "gateway: journal: {torn} bytes of a write that was cut short are cut off"
+        );
     }
+    Ok(journal)
 }
 
 /// Tells why a journal can't be had.

@@ -10,7 +10,7 @@ use gateway_run::{
     Day, DayJournal, RunFault, SettingsFault, SettingsFile, audit_day, end_day, read, run_settings,
     tell,
 };
-use journal_audit::{audit_file, script_file};
+use journal_audit::{audit_file, audit_so_far, script_file};
 use journal_file::{DayFile, Ending, FileFault, PageFault, read_file};
 use script_command::{audit_script, tell_refusal};
 use std::alloc::Global;
@@ -26,6 +26,7 @@ use std::time::{Clock, Duration};
 use std::{env, fs};
 use stderr_queue::{LineQueue, Queued, start_writer};
 
+mod demo_served;
 mod journal;
 #[cfg(test)]
 mod missing_files;
@@ -34,9 +35,10 @@ mod served;
 #[cfg(test)]
 mod world_numbers;
 
-use journal::journal_at;
+use demo_served::{asked_demo, serve_demo};
+use journal::journal_asked;
 use played::{asked_shape, play_world};
-use served::{asked_serve, end_served, serve_until_told};
+use served::{asked_end, asked_serve, end_of_day, end_served, serve_until_told};
 
 fn main(rt: HostRuntime) -> ExitCode {
     let words = match words_of(&rt) {
@@ -46,24 +48,45 @@ fn main(rt: HostRuntime) -> ExitCode {
     match asked(rt.alloc(), words.as_slice()) {
         Ok(Some(Asked::Audit(path))) => with_script(&rt, path, false),
         Ok(Some(Asked::Keep(path))) => with_script(&rt, path, true),
-        Ok(Some(Asked::AuditDay { journal, settings })) => audit_journal(&rt, journal, settings),
+        Ok(
+            Some(
+                Asked::AuditDay {
+                    journal,
+                    settings,
+                    so_far,
+                },
+            ),
+        ) => audit_journal(&rt, journal, settings, so_far),
         Ok(
             Some(
                 Asked::Run {
                     settings,
                     links,
                     journal,
+                    sync,
                 },
             ),
-        ) => match asked_run(&rt, settings, links, journal) {
+        ) => match asked_run(&rt, settings, links, journal, sync) {
             Ok(asked) => serve_file(&rt, rt.alloc(), asked, &mut rt.stderr()),
             Err(status) => status,
         },
-        Ok(Some(Asked::Serve { settings, journal })) => match asked_serve(&rt, settings, journal) {
+        Ok(
+            Some(
+                Asked::Serve {
+                    settings,
+                    journal,
+                    sync,
+                },
+            ),
+        ) => match asked_serve(&rt, settings, journal, sync) {
             Ok(asked) => serve_until_told(&rt, rt.alloc(), asked, &mut rt.stderr()),
             Err(status) => status,
         },
         Ok(Some(Asked::End { settings, at_once })) => end_served(&rt, settings, at_once),
+        Ok(Some(Asked::EndDay { journal, settings })) => match asked_end(&rt, settings, journal) {
+            Ok(asked) => end_of_day(&rt, rt.alloc(), asked, &mut rt.stderr()),
+            Err(status) => status,
+        },
         Ok(Some(Asked::Export { journal, format })) => export_journal(&rt, journal, format),
         Ok(
             Some(
@@ -79,6 +102,10 @@ fn main(rt: HostRuntime) -> ExitCode {
             Err(status) => status,
         },
         Ok(Some(Asked::Demo)) => demonstrate(&rt, rt.alloc(), &mut rt.stderr()),
+        Ok(Some(Asked::ServedDemo)) => match asked_demo(&rt) {
+            Ok(demo) => serve_demo(&rt, rt.alloc(), demo, &mut rt.stderr()),
+            Err(status) => status,
+        },
         Ok(None) => refused(
             &rt,
             "an audit is of --script FILE, or of --journal FILE with --settings FILE",
@@ -146,25 +173,29 @@ fn with_lines(rt: &HostRuntime, script: &[u8], is_kept: bool) -> ExitCode {
     ExitCode::from(status)
 }
 
-/// Audits the day that a journal's file keeps.
-fn audit_journal(rt: &HostRuntime, journal: &str, settings: &str) -> ExitCode {
+/// Audits the day that a journal's file keeps: one that is over, or what there is so far.
+fn audit_journal(rt: &HostRuntime, journal: &str, settings: &str, is_so_far: bool) -> ExitCode {
     let file = match settings_at(rt, settings) {
         Ok(file) => file,
         Err(status) => return status,
     };
     match file_at(rt, journal) {
-        Ok(day) => audit_day_of(rt, day.as_slice(), &file),
+        Ok(day) => audit_day_of(rt, day.as_slice(), &file, is_so_far),
         Err(status) => status,
     }
 }
 
 /// Audits a day by its settings.
-fn audit_day_of(rt: &HostRuntime, day: &[u8], file: &SettingsFile) -> ExitCode {
+fn audit_day_of(rt: &HostRuntime, day: &[u8], file: &SettingsFile, is_so_far: bool) -> ExitCode {
     let alloc = rt.alloc();
     let Ok(mut output) = BufWriter::new(alloc, io::writer(rt)) else {
         return out_of_memory(rt);
     };
-    let status = audit_file(alloc, day, &file.settings, &mut output, &mut rt.stderr());
+    let status = if is_so_far {
+        audit_so_far(alloc, day, &file.settings, &mut output, &mut rt.stderr())
+    } else {
+        audit_file(alloc, day, &file.settings, &mut output, &mut rt.stderr())
+    };
     ExitCode::from(status)
 }
 
@@ -244,15 +275,13 @@ fn asked_run<'a>(
     settings: &str,
     links: Option<&str>,
     path: Option<&'a str>,
+    sync: Option<&str>,
 ) -> Result<AskedRun<'a>, ExitCode> {
     let Some(links) = links_of(links) else {
         return Err(refused(rt, "--links is a number from 1 to 1000"));
     };
     let file = settings_at(rt, settings)?;
-    let journal = match path {
-        Some(path) => Some(journal_at(rt, path)?),
-        None => None,
-    };
+    let journal = journal_asked(rt, path, sync)?;
     Ok(AskedRun {
         file,
         links,
@@ -340,9 +369,10 @@ fn ended<R: Files<File = File>, W: Write, F: Write>(
     }
 }
 
-/// The bytes of a file.
+/// The bytes of a file, all of it on the disk: also where syncing it was left for later.
 fn bytes_at<R: Files<File = File>>(rt: &R, alloc: Global, path: &str) -> io::Result<Vec<u8>> {
     let mut file = File::open(rt, path)?;
+    file.sync_all()?;
     let mut bytes = Vec::new(alloc);
     let _ = file.read_to_end(&mut bytes)?;
     Ok(bytes)

@@ -1,8 +1,10 @@
 //! `serve` and `end`.
 
-use super::journal::journal_at;
-use super::{ended, file_at, lines_of, no_seed, out_of_memory};
-use gateway_run::{DayJournal, RunFault, SettingsFault, SettingsFile, read, tell};
+use super::journal::{journal_asked, stopped_at};
+use super::{ended, file_at, lines_of, no_seed, out_of_memory, settings_at};
+use gateway_run::{
+    Day, DayJournal, RunFault, SettingsFault, SettingsFile, end_stopped, read, tell,
+};
 use gateway_serve::{
     Bound, ControlSettings, OperatorFault, OperatorSettings, Told, bind_all, read_operator,
     serve_day, tell_end, tell_open_orders,
@@ -28,6 +30,23 @@ pub(crate) struct AskedServe<'a> {
     journal: Option<DayJournal>,
     /// Where the journal is.
     path: Option<&'a str>,
+}
+
+impl<'a> AskedServe<'a> {
+    /// By these settings and listeners, with no journal. Takes no memory.
+    pub(crate) fn without_journal(
+        file: SettingsFile,
+        operator: OperatorSettings,
+        bound: Bound,
+    ) -> AskedServe<'a> {
+        AskedServe {
+            file,
+            operator,
+            bound,
+            journal: None,
+            path: None,
+        }
+    }
 }
 
 /// What a settings file says, of the gateway and of its operator, or the status where it is refused.
@@ -60,6 +79,7 @@ pub(crate) fn asked_serve<'a>(
     rt: &HostRuntime,
     settings: &str,
     path: Option<&'a str>,
+    sync: Option<&str>,
 ) -> Result<AskedServe<'a>, ExitCode> {
     let (file, operator) = all_settings_at(rt, settings)?;
     let bound = match bind_all(rt, rt.alloc(), &file.listens, &operator.control) {
@@ -67,10 +87,7 @@ pub(crate) fn asked_serve<'a>(
         Ok(None) => return Err(ExitCode::from(2)),
         Err(_) => return Err(out_of_memory(rt)),
     };
-    let journal = match path {
-        Some(path) => Some(journal_at(rt, path)?),
-        None => None,
-    };
+    let journal = journal_asked(rt, path, sync)?;
     Ok(AskedServe {
         file,
         operator,
@@ -125,9 +142,22 @@ where
     };
     let ran = serve_day(rt, alloc, hasher, file, operator, bound, theirs, journal);
     lines.end(rt);
-    let status = match ran {
+    ExitCode::from(status_of(rt, alloc, ran, path, &mut output, faults))
+}
+
+/// Ends a day: writes its audit, looks whether its journal has it, where there is one, and names the orders that aren't
+/// over. The status is as `ended` has it, and 1 where not all of them could be named, or the day didn't come to its end.
+fn status_of<R: Files<File = File>, W: Write, F: Write>(
+    rt: &R,
+    alloc: Global,
+    ran: Result<Day, RunFault>,
+    path: Option<&str>,
+    output: &mut W,
+    faults: &mut F,
+) -> u8 {
+    match ran {
         Ok(day) => {
-            let status = ended(rt, alloc, &day, path, &mut output, faults);
+            let status = ended(rt, alloc, &day, path, output, faults);
             if tell_open_orders(alloc, &day, faults) {
                 status
             } else {
@@ -135,8 +165,65 @@ where
             }
         }
         Err(fault) => tell(fault, faults),
+    }
+}
+
+/// The day of a gateway that stopped, which is to be ended: its settings, and its journal.
+#[derive(Drop)]
+pub(crate) struct AskedEnd<'a> {
+    file: SettingsFile,
+    journal: DayJournal,
+    /// Where the journal is.
+    path: &'a str,
+}
+
+/// What `end` of a journal asks for, or the status where it is refused: of settings, or of a journal that can't be had.
+pub(crate) fn asked_end<'a>(
+    rt: &HostRuntime,
+    settings: &str,
+    path: &'a str,
+) -> Result<AskedEnd<'a>, ExitCode> {
+    let file = settings_at(rt, settings)?;
+    let journal = stopped_at(rt, path)?;
+    Ok(AskedEnd {
+        file,
+        journal,
+        path,
+    })
+}
+
+/// Ends the day of a gateway that stopped.
+pub(crate) fn end_of_day<R, F: Write>(
+    rt: &R,
+    alloc: Global,
+    asked: AskedEnd<'_>,
+    faults: &mut F,
+) -> ExitCode
+where
+    R: Threads
+        + Wait
+        + Sync
+        + Clock
+        + Net<Listener = TcpListener, Stream = TcpStream>
+        + RandomSource
+        + Files<File = File>
+        + Print
+        + Eprint,
+{
+    let Ok(hasher) = RandomState::new(rt) else {
+        return no_seed(faults);
     };
-    ExitCode::from(status)
+    let Ok(mut output) = BufWriter::new(alloc, io::writer(rt)) else {
+        let _ = writeln!(faults, "out of memory");
+        return ExitCode::from(1);
+    };
+    let AskedEnd {
+        file,
+        journal,
+        path,
+    } = asked;
+    let ran = end_stopped(rt, alloc, hasher, file, journal);
+    ExitCode::from(status_of(rt, alloc, ran, Some(path), &mut output, faults))
 }
 
 /// Tells the gateway that is served by these settings to end, and waits until it has.

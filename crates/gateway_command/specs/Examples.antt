@@ -3,8 +3,10 @@ use Rattle.std.specs.Prelude.{◌≡◌, refl, true, false, List, [], ◌∷◌,
 use Rattle.clap.specs.Words.{Text, Kinds}
 use Rattle.clap.specs.declared.error.kind.ErrorKind.TheVariants as kind
 use Rattle.clap.proofs.OnLiterals.{clap_on_literals}
-use Rattle.gateway_command.specs.Command.{Asking, Audits, AuditsDay, Demonstrates, Ends, Keeps, Plays, Runs, Serves}
-use Rattle.gateway_command.specs.Command.{asking_of, asked_of, gateway_found, gateway_faults, links_of, number_between}
+use Rattle.gateway_command.specs.declared.asking.Syncs.TheVariants.{Each, Every, Never}
+use Rattle.gateway_command.specs.Command.{Asking, Audits, AuditsDay, Demonstrates, Ends, EndsDay, Keeps, Plays, Runs}
+use Rattle.gateway_command.specs.Command.{Serves, ServesDemonstration, asking_of, asked_of, gateway_found}
+use Rattle.gateway_command.specs.Command.{gateway_faults, links_of, number_between, syncs_of}
 
 abbrev line : List Text → List Text
 line words = codes "gateway" ∷ words
@@ -27,29 +29,29 @@ in_one_word : Asks (codes "audit" ∷ codes "--script=a.script" ∷ []) (Audits 
 unfolding clap_on_literals gateway_found gateway_faults asking_of
 in_one_word = (refl, refl)
 
-a_gateway : Asks (codes "run" ∷ codes "--settings" ∷ codes "a.toml" ∷ []) (Runs (codes "a.toml") None None)
+a_gateway : Asks (codes "run" ∷ codes "--settings" ∷ codes "a.toml" ∷ []) (Runs (codes "a.toml") None None None)
 unfolding clap_on_literals gateway_found gateway_faults asking_of
 a_gateway = (refl, refl)
 
 a_gateway_of_two_links : Asks (codes "run" ∷ codes "--links" ∷ codes "2" ∷ codes "--settings" ∷ codes "a.toml" ∷ [])
-    (Runs (codes "a.toml") (Some (codes "2")) None)
+    (Runs (codes "a.toml") (Some (codes "2")) None None)
 unfolding clap_on_literals gateway_found gateway_faults asking_of
 a_gateway_of_two_links = (refl, refl)
 
 a_gateway_with_a_journal :
     Asks (codes "run" ∷ codes "--settings" ∷ codes "a.toml" ∷ codes "--journal" ∷ codes "a.day" ∷ [])
-    (Runs (codes "a.toml") None (Some (codes "a.day")))
+    (Runs (codes "a.toml") None (Some (codes "a.day")) None)
 unfolding clap_on_literals gateway_found gateway_faults asking_of
 a_gateway_with_a_journal = (refl, refl)
 
 a_gateway_until_it_is_told_to_end : Asks (codes "serve" ∷ codes "--settings" ∷ codes "a.toml" ∷ [])
-    (Serves (codes "a.toml") None)
+    (Serves (codes "a.toml") None None)
 unfolding clap_on_literals gateway_found gateway_faults asking_of
 a_gateway_until_it_is_told_to_end = (refl, refl)
 
 a_gateway_that_is_served_with_a_journal :
     Asks (codes "serve" ∷ codes "--journal" ∷ codes "a.day" ∷ codes "--settings" ∷ codes "a.toml" ∷ [])
-    (Serves (codes "a.toml") (Some (codes "a.day")))
+    (Serves (codes "a.toml") (Some (codes "a.day")) None)
 unfolding clap_on_literals gateway_found gateway_faults asking_of
 a_gateway_that_is_served_with_a_journal = (refl, refl)
 
@@ -62,6 +64,41 @@ an_end_at_once :
 unfolding clap_on_literals gateway_found gateway_faults asking_of
 an_end_at_once = (refl, refl)
 
+a_journal_that_is_synced_later :
+    Asks
+    (codes "run" ∷ codes "--settings" ∷ codes "a.toml" ∷ codes "--journal" ∷ codes "a.day" ∷ codes "--sync"
+    ∷ codes "100ms" ∷ [])
+    (Runs (codes "a.toml") None (Some (codes "a.day")) (Some (codes "100ms")))
+unfolding clap_on_literals gateway_found gateway_faults asking_of
+a_journal_that_is_synced_later = (refl, refl)
+
+a_served_journal_that_is_never_synced :
+    Asks
+    (codes "serve" ∷ codes "--sync" ∷ codes "never" ∷ codes "--settings" ∷ codes "a.toml" ∷ codes "--journal"
+    ∷ codes "a.day" ∷ [])
+    (Serves (codes "a.toml") (Some (codes "a.day")) (Some (codes "never")))
+unfolding clap_on_literals gateway_found gateway_faults asking_of
+a_served_journal_that_is_never_synced = (refl, refl)
+
+the_end_of_a_stopped_day :
+    Asks (codes "end" ∷ codes "--journal" ∷ codes "a.day" ∷ codes "--settings" ∷ codes "a.toml" ∷ [])
+    (EndsDay (codes "a.day") (codes "a.toml"))
+unfolding clap_on_literals gateway_found gateway_faults asking_of
+the_end_of_a_stopped_day = (refl, refl)
+
+-- a stopped day awaits nobody anyhow
+the_end_of_a_stopped_day_at_once :
+    Asks
+    (codes "end" ∷ codes "--now" ∷ codes "--settings" ∷ codes "a.toml" ∷ codes "--journal" ∷ codes "a.day" ∷ [])
+    (EndsDay (codes "a.day") (codes "a.toml"))
+unfolding clap_on_literals gateway_found gateway_faults asking_of
+the_end_of_a_stopped_day_at_once = (refl, refl)
+
+the_end_of_a_day_without_settings :
+    Refuses (codes "end" ∷ codes "--journal" ∷ codes "a.day" ∷ []) (kind.MissingRequiredArgument ∷ [])
+unfolding clap_on_literals gateway_faults
+the_end_of_a_day_without_settings = refl
+
 links_of_a_gateway_that_is_served :
     Refuses (codes "serve" ∷ codes "--links" ∷ codes "2" ∷ codes "--settings" ∷ codes "a.toml" ∷ [])
     (kind.UnknownArgument ∷ [])
@@ -73,9 +110,20 @@ unfolding clap_on_literals gateway_faults
 an_end_of_nothing = refl
 
 a_day : Asks (codes "audit" ∷ codes "--settings" ∷ codes "a.toml" ∷ codes "--journal" ∷ codes "a.day" ∷ [])
-    (AuditsDay (codes "a.day") (codes "a.toml"))
+    (AuditsDay (codes "a.day") (codes "a.toml") false)
 unfolding clap_on_literals gateway_found gateway_faults asking_of
 a_day = (refl, refl)
+
+a_day_so_far :
+    Asks
+    (codes "audit" ∷ codes "--so-far" ∷ codes "--settings" ∷ codes "a.toml" ∷ codes "--journal" ∷ codes "a.day" ∷ [])
+    (AuditsDay (codes "a.day") (codes "a.toml") true)
+unfolding clap_on_literals gateway_found gateway_faults asking_of
+a_day_so_far = (refl, refl)
+
+a_script_so_far : Vainly (codes "audit" ∷ codes "--script" ∷ codes "a.script" ∷ codes "--so-far" ∷ [])
+unfolding clap_on_literals gateway_found gateway_faults asking_of
+a_script_so_far = (refl, refl)
 
 a_script_as_a_day : Asks (codes "journal" ∷ codes "--script" ∷ codes "a.script" ∷ []) (Keeps (codes "a.script"))
 unfolding clap_on_literals gateway_found gateway_faults asking_of
@@ -84,6 +132,10 @@ a_script_as_a_day = (refl, refl)
 a_demonstration : Asks (codes "demo" ∷ []) Demonstrates
 unfolding clap_on_literals gateway_found gateway_faults asking_of
 a_demonstration = (refl, refl)
+
+a_demonstration_until_it_is_told_to_end : Asks (codes "demo" ∷ codes "--serve" ∷ []) ServesDemonstration
+unfolding clap_on_literals gateway_found gateway_faults asking_of
+a_demonstration_until_it_is_told_to_end = (refl, refl)
 
 a_world : Asks (codes "world" ∷ codes "--seed" ∷ codes "7" ∷ codes "--steps" ∷ codes "300" ∷ [])
     (Plays (codes "7") (codes "300") None None)
@@ -144,6 +196,11 @@ another_option = refl
 a_demonstration_of_a_file : Refuses (codes "demo" ∷ codes "a.toml" ∷ []) (kind.UnknownArgument ∷ [])
 unfolding clap_on_literals gateway_faults
 a_demonstration_of_a_file = refl
+
+settings_of_a_demonstration : Refuses (codes "demo" ∷ codes "--settings" ∷ codes "a.toml" ∷ [])
+    (kind.UnknownArgument ∷ [])
+unfolding clap_on_literals gateway_faults
+settings_of_a_demonstration = refl
 
 twice : Refuses (codes "audit" ∷ codes "--script" ∷ codes "a" ∷ codes "--script" ∷ codes "b" ∷ [])
     (kind.ArgumentConflict ∷ [])
@@ -235,3 +292,52 @@ a_number_without_digits = refl
 
 a_number_with_a_letter : number_between 0 64 (codes "1x") ≡ None
 a_number_with_a_letter = refl
+
+-- moments of a sync
+with_each_write_where_nothing_is_said : syncs_of None ≡ Some Each
+unfolding syncs_of
+with_each_write_where_nothing_is_said = refl
+
+with_each_write : syncs_of (Some (codes "each")) ≡ Some Each
+unfolding syncs_of
+with_each_write = refl
+
+at_no_moment : syncs_of (Some (codes "never")) ≡ Some Never
+unfolding syncs_of
+at_no_moment = refl
+
+each_millisecond : syncs_of (Some (codes "1ms")) ≡ Some (Every 1)
+unfolding syncs_of
+each_millisecond = refl
+
+each_minute : syncs_of (Some (codes "60000ms")) ≡ Some (Every 60000)
+unfolding syncs_of
+each_minute = refl
+
+beyond_a_minute : syncs_of (Some (codes "60001ms")) ≡ None
+unfolding syncs_of
+beyond_a_minute = refl
+
+each_nothing : syncs_of (Some (codes "0ms")) ≡ None
+unfolding syncs_of
+each_nothing = refl
+
+a_number_without_its_unit : syncs_of (Some (codes "100")) ≡ None
+unfolding syncs_of
+a_number_without_its_unit = refl
+
+a_unit_without_its_number : syncs_of (Some (codes "ms")) ≡ None
+unfolding syncs_of
+a_unit_without_its_number = refl
+
+a_unit_of_one_letter : syncs_of (Some (codes "s")) ≡ None
+unfolding syncs_of
+a_unit_of_one_letter = refl
+
+another_word : syncs_of (Some (codes "always")) ≡ None
+unfolding syncs_of
+another_word = refl
+
+no_word : syncs_of (Some []) ≡ None
+unfolding syncs_of
+no_word = refl

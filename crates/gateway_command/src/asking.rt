@@ -16,6 +16,8 @@ pub enum Asked<'a> {
         journal: &'a str,
         /// The settings' file.
         settings: &'a str,
+        /// Whether a day that goes on is audited, too.
+        so_far: bool,
     },
     /// The day of the script in this file, as a journal.
     Keep(&'a str),
@@ -27,6 +29,8 @@ pub enum Asked<'a> {
         links: Option<&'a str>,
         /// The file that the day's journal is written to.
         journal: Option<&'a str>,
+        /// When that is synced, as it was said.
+        sync: Option<&'a str>,
     },
     /// A gateway by the settings in a file, until it is told to end.
     Serve {
@@ -34,6 +38,8 @@ pub enum Asked<'a> {
         settings: &'a str,
         /// The file that the day's journal is written to.
         journal: Option<&'a str>,
+        /// When that is synced, as it was said.
+        sync: Option<&'a str>,
     },
     /// The end of the gateway that is served by the settings in a file.
     End {
@@ -41,6 +47,13 @@ pub enum Asked<'a> {
         settings: &'a str,
         /// Whether it ends at once, and doesn't await the market's answers for a while.
         at_once: bool,
+    },
+    /// The end of the day of a gateway that stopped, which a journal's file keeps, by the settings in a file.
+    EndDay {
+        /// The journal's file.
+        journal: &'a str,
+        /// The settings' file.
+        settings: &'a str,
     },
     /// The messages of the day that a journal's file keeps.
     Export {
@@ -51,6 +64,8 @@ pub enum Asked<'a> {
     },
     /// The demonstration.
     Demo,
+    /// The demonstration, until it is told to end.
+    ServedDemo,
     /// The closed world of a seed.
     World {
         /// The seed, as it was said.
@@ -62,6 +77,59 @@ pub enum Asked<'a> {
         /// How many ports there are, as it was said.
         ports: Option<&'a str>,
     },
+}
+
+/// When a journal's file is synced.
+#[derive(Clone, Copy, Debug, PartialEq, Eq)]
+pub enum Syncs {
+    /// With each write, before anybody is told.
+    Each,
+    /// Each so many milliseconds.
+    Every(u16),
+    /// When the system does it by itself.
+    Never,
+}
+
+/// When a journal's file is to be synced: `each`, also where nothing is said, `never`, or so many milliseconds, as
+/// digits in front of `ms`, for 1 to 60,000. `None` of anything else.
+pub fn syncs_of(said: Option<&str>) -> Option<Syncs>
+    ensures { result ≡ spec.syncs_of (option_map (λ text. text.now) said.entry) }
+{
+    match said {
+        None => Some(Syncs::Each),
+        Some(text) => syncs_in(text),
+    }
+}
+
+/// The same of what was said.
+fn syncs_in(text: &str) -> Option<Syncs>
+    ensures { result ≡ spec.syncs_in text.now }
+{
+    match text {
+        "each" => Some(Syncs::Each),
+        "never" => Some(Syncs::Never),
+        _ => every_in(text.as_bytes()),
+    }
+}
+
+/// The same of milliseconds.
+fn every_in(text: &[u8]) -> Option<Syncs>
+    ensures { result ≡ spec.every_in text.now }
+{
+    match text.strip_suffix(b"ms") {
+        Some(digits) => every_of(digits),
+        None => None,
+    }
+}
+
+/// The same of their number.
+fn every_of(digits: &[u8]) -> Option<Syncs>
+    ensures { result ≡ spec.every_of digits.now }
+{
+    match number_in(digits, 1, 60_000) {
+        Some(number) => Some(Syncs::Every(number as u16)),
+        None => None,
+    }
 }
 
 /// How many links of each client are to be served: digits, for 1 to 1,000, and 1 where nothing is said. `None` of

@@ -63,7 +63,7 @@ fn asked_by<'a>(name: &str, found: &ArgMatches<'a>) -> Option<Asked<'a>>
         "run" => run_asked(found),
         "serve" => serve_asked(found),
         "end" => end_asked(found),
-        "demo" => Some(Asked::Demo),
+        "demo" => demo_asked(found),
         "export" => export_asked(found),
         "world" => world_asked(found),
         _ => None,
@@ -80,11 +80,11 @@ fn audit_asked<'a>(found: &ArgMatches<'a>) -> Option<Asked<'a>>
     }
 }
 
-/// What `audit` asks for with a script: its audit, where neither a journal nor settings are named.
+/// What `audit` asks for with a script: its audit, where nothing else is said.
 fn script_asked<'a>(found: &ArgMatches<'a>, script: &'a str) -> Option<Asked<'a>>
     ensures { option_map asked_seen result
         ≡ spec.script_asked script.now (first_of (codes "journal") (rows_of (found_of found.now)))
-        (first_of (codes "settings") (rows_of (found_of found.now))) }
+        (rows_of (found_of found.now)) }
 {
     match value_of(found, "journal") {
         Some(_) => None,
@@ -95,18 +95,30 @@ fn script_asked<'a>(found: &ArgMatches<'a>, script: &'a str) -> Option<Asked<'a>
 /// The same, where no journal is named.
 fn bare_asked<'a>(found: &ArgMatches<'a>, script: &'a str) -> Option<Asked<'a>>
     ensures { option_map asked_seen result
-        ≡ spec.bare_asked script.now (first_of (codes "settings") (rows_of (found_of found.now))) }
+        ≡ spec.bare_asked script.now (first_of (codes "settings") (rows_of (found_of found.now)))
+        (spec.is_said (first_of (codes "so-far") (rows_of (found_of found.now)))) }
 {
     match value_of(found, "settings") {
         Some(_) => None,
-        None => Some(Asked::Audit(script)),
+        None => lone_asked(script, is_said(found, "so-far")),
+    }
+}
+
+/// The same, where no settings are named either: a script's day has no further part.
+fn lone_asked<'a>(script: &'a str, is_so_far: bool) -> Option<Asked<'a>>
+    ensures { option_map asked_seen result ≡ spec.lone_asked script.now is_so_far }
+{
+    if is_so_far {
+        None
+    } else {
+        Some(Asked::Audit(script))
     }
 }
 
 /// What `audit` asks for without a script: the audit of a journal, by its settings.
 fn day_asked<'a>(found: &ArgMatches<'a>) -> Option<Asked<'a>>
     ensures { option_map asked_seen result ≡ spec.day_asked (first_of (codes "journal") (rows_of (found_of found.now)))
-        (first_of (codes "settings") (rows_of (found_of found.now))) }
+        (rows_of (found_of found.now)) }
 {
     match value_of(found, "journal") {
         Some(journal) => journal_asked(found, journal),
@@ -116,11 +128,14 @@ fn day_asked<'a>(found: &ArgMatches<'a>) -> Option<Asked<'a>>
 
 /// What `audit` asks for with this journal.
 fn journal_asked<'a>(found: &ArgMatches<'a>, journal: &'a str) -> Option<Asked<'a>>
-    ensures { option_map asked_seen result
-        ≡ spec.journal_asked journal.now (first_of (codes "settings") (rows_of (found_of found.now))) }
+    ensures { option_map asked_seen result ≡ spec.journal_asked journal.now (rows_of (found_of found.now)) }
 {
     match value_of(found, "settings") {
-        Some(settings) => Some(Asked::AuditDay { journal, settings }),
+        Some(settings) => Some(Asked::AuditDay {
+            journal,
+            settings,
+            so_far: is_said(found, "so-far"),
+        }),
         None => None,
     }
 }
@@ -144,6 +159,7 @@ fn run_asked<'a>(found: &ArgMatches<'a>) -> Option<Asked<'a>>
             settings,
             links: value_of(found, "links"),
             journal: value_of(found, "journal"),
+            sync: value_of(found, "sync"),
         }),
         None => None,
     }
@@ -157,6 +173,7 @@ fn serve_asked<'a>(found: &ArgMatches<'a>) -> Option<Asked<'a>>
         Some(settings) => Some(Asked::Serve {
             settings,
             journal: value_of(found, "journal"),
+            sync: value_of(found, "sync"),
         }),
         None => None,
     }
@@ -167,11 +184,22 @@ fn end_asked<'a>(found: &ArgMatches<'a>) -> Option<Asked<'a>>
     ensures { option_map asked_seen result ≡ spec.end_asked (rows_of (found_of found.now)) }
 {
     match value_of(found, "settings") {
-        Some(settings) => Some(Asked::End {
+        Some(settings) => end_by(found, settings),
+        None => None,
+    }
+}
+
+/// The same by these settings: with a journal the end of the day that it keeps, which awaits nobody.
+fn end_by<'a>(found: &ArgMatches<'a>, settings: &'a str) -> Option<Asked<'a>>
+    ensures { option_map asked_seen result ≡ spec.end_by settings.now
+        (first_of (codes "journal") (rows_of (found_of found.now))) (rows_of (found_of found.now)) }
+{
+    match value_of(found, "journal") {
+        Some(journal) => Some(Asked::EndDay { journal, settings }),
+        None => Some(Asked::End {
             settings,
             at_once: is_said(found, "now"),
         }),
-        None => None,
     }
 }
 
@@ -185,6 +213,18 @@ fn export_asked<'a>(found: &ArgMatches<'a>) -> Option<Asked<'a>>
             format: value_of(found, "format"),
         }),
         None => None,
+    }
+}
+
+/// What `demo` asks for.
+#[tactic(auto, unfolding(crate::specs::Seen::asked_seen))]
+fn demo_asked<'a>(found: &ArgMatches<'a>) -> Option<Asked<'a>>
+    ensures { option_map asked_seen result ≡ spec.demo_asked (rows_of (found_of found.now)) }
+{
+    if is_said(found, "serve") {
+        Some(Asked::ServedDemo)
+    } else {
+        Some(Asked::Demo)
     }
 }
 
@@ -275,7 +315,7 @@ fn with_option<'a>(command: Command<'a>, arg: Arg<'a>) -> Result<Command<'a>, Al
     command.arg(arg)
 }
 
-/// `audit --script FILE`, or `audit --journal FILE --settings FILE`.
+/// `audit --script FILE`, or `audit --journal FILE --settings FILE [--so-far]`.
 fn audit<'a>(alloc: Global) -> Result<Command<'a>, AllocError>
     ensures app { IfOk result (λ command. app_of command ≡ spec.audit) }
     ensures own { IfOk result (λ command. (fields_of command).has_globals ≡ false) }
@@ -292,7 +332,13 @@ fn audit<'a>(alloc: Global) -> Result<Command<'a>, AllocError>
         "FILE",
         "The settings of that day, in TOML",
     );
-    with_option(with_journal, settings)
+    let with_settings = with_option(with_journal, settings)?;
+    let so_far = flag(
+        alloc,
+        "so-far",
+        "Audits a day that goes on, too, of which the gateway runs or was killed",
+    );
+    with_option(with_settings, so_far)
 }
 
 /// `journal --script FILE`.
@@ -308,7 +354,20 @@ fn journal<'a>(alloc: Global) -> Result<Command<'a>, AllocError>
     with_option(alone, required(alloc, "script", "FILE", "The script"))
 }
 
-/// `run --settings FILE [--links N] [--journal FILE]`.
+/// When a journal is synced: an option of `run` and of `serve`.
+fn sync_option<'a>(alloc: Global) -> Arg<'a>
+    ensures rule { rule_of result ≡ spec.value_rule (codes "sync") }
+    ensures own { result.global ≡ false }
+{
+    option(
+        alloc,
+        "sync",
+        "WHEN",
+        "When the journal is synced: each, which is before anybody is told, or Nms, or never",
+    )
+}
+
+/// `run --settings FILE [--links N] [--journal FILE] [--sync WHEN]`.
 fn run<'a>(alloc: Global) -> Result<Command<'a>, AllocError>
     ensures app { IfOk result (λ command. app_of command ≡ spec.runs) }
     ensures own { IfOk result (λ command. (fields_of command).has_globals ≡ false) }
@@ -329,12 +388,13 @@ fn run<'a>(alloc: Global) -> Result<Command<'a>, AllocError>
         alloc,
         "journal",
         "FILE",
-        "A new file that the journal of the day is written to at its end",
+        "The file of the day's journal: a new one, or of a day that goes on",
     );
-    with_option(with_links, journal)
+    let with_journal = with_option(with_links, journal)?;
+    with_option(with_journal, sync_option(alloc))
 }
 
-/// `serve --settings FILE [--journal FILE]`.
+/// `serve --settings FILE [--journal FILE] [--sync WHEN]`.
 fn serve<'a>(alloc: Global) -> Result<Command<'a>, AllocError>
     ensures app { IfOk result (λ command. app_of command ≡ spec.serves) }
     ensures own { IfOk result (λ command. (fields_of command).has_globals ≡ false) }
@@ -350,18 +410,21 @@ fn serve<'a>(alloc: Global) -> Result<Command<'a>, AllocError>
         alloc,
         "journal",
         "FILE",
-        "A new file that the journal of the day is written to at its end",
+        "The file of the day's journal: a new one, or of a day that goes on",
     );
-    with_option(with_settings, journal)
+    let with_journal = with_option(with_settings, journal)?;
+    with_option(with_journal, sync_option(alloc))
 }
 
-/// `end --settings FILE [--now]`.
+/// `end --settings FILE [--now] [--journal FILE]`.
 fn end<'a>(alloc: Global) -> Result<Command<'a>, AllocError>
     ensures app { IfOk result (λ command. app_of command ≡ spec.ends) }
     ensures own { IfOk result (λ command. (fields_of command).has_globals ≡ false) }
 {
     let alone = Command::new(alloc, "end")
-        .about("Tells the gateway that is served by these settings to end, and waits until it has")
+        .about(
+            "Tells the gateway that is served by these settings to end, and waits until it has; or ends a stopped day",
+        )
         .after_help(END);
     let settings = required(alloc, "settings", "FILE", "The settings, in TOML");
     let with_settings = with_option(alone, settings)?;
@@ -370,7 +433,14 @@ fn end<'a>(alloc: Global) -> Result<Command<'a>, AllocError>
         "now",
         "Doesn't await the market's answers for a while",
     );
-    with_option(with_settings, now)
+    let with_now = with_option(with_settings, now)?;
+    let journal = option(
+        alloc,
+        "journal",
+        "FILE",
+        "The journal of a gateway that was killed: its day is ended",
+    );
+    with_option(with_now, journal)
 }
 
 /// `export --journal FILE [--format NAME]`.
@@ -392,14 +462,20 @@ fn export<'a>(alloc: Global) -> Result<Command<'a>, AllocError>
     with_option(with_journal, format)
 }
 
-/// `demo`.
-fn demo<'a>(alloc: Global) -> Command<'a>
-    ensures app { app_of result ≡ spec.demo }
-    ensures own { (fields_of result).has_globals ≡ false }
+/// `demo [--serve]`.
+fn demo<'a>(alloc: Global) -> Result<Command<'a>, AllocError>
+    ensures app { IfOk result (λ command. app_of command ≡ spec.demo) }
+    ensures own { IfOk result (λ command. (fields_of command).has_globals ≡ false) }
 {
-    Command::new(alloc, "demo")
+    let alone = Command::new(alloc, "demo")
         .about("Shows a gateway between two clients and a simulated market, on loopback")
-        .after_help(DEMO)
+        .after_help(DEMO);
+    let serve = flag(
+        alloc,
+        "serve",
+        "Goes on until it is told to end, with a page to look at",
+    );
+    with_option(alone, serve)
 }
 
 /// `world --seed N --steps K [--clients C] [--ports P]`.
@@ -480,6 +556,19 @@ fn with_end<'a>(alloc: Global, command: Command<'a>) -> Result<Command<'a>, Allo
     }
 }
 
+/// A command with `demo` more.
+fn with_demo<'a>(alloc: Global, command: Command<'a>) -> Result<Command<'a>, AllocError>
+    ensures { IfOk result (λ wider. app_of wider ≡ spec.with_command (app_of command.entry) spec.demo) }
+{
+    match demo(alloc) {
+        Ok(demo) => with_command(command, demo),
+        Err(error) => {
+            drop(command);
+            Err(error)
+        }
+    }
+}
+
 /// A command with `audit` more.
 fn with_audit<'a>(alloc: Global, command: Command<'a>) -> Result<Command<'a>, AllocError>
     ensures { IfOk result (λ wider. app_of wider ≡ spec.with_command (app_of command.entry) spec.audit) }
@@ -544,7 +633,7 @@ fn gateway<'a>(alloc: Global) -> Result<Command<'a>, AllocError>
     let with_run = with_run(alloc, alone)?;
     let with_serve = with_serve(alloc, with_run)?;
     let with_end = with_end(alloc, with_serve)?;
-    let with_demo = with_command(with_end, demo(alloc))?;
+    let with_demo = with_demo(alloc, with_end)?;
     let with_audit = with_audit(alloc, with_demo)?;
     let with_export = with_export(alloc, with_audit)?;
     let with_journal = with_journal(alloc, with_export)?;

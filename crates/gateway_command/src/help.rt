@@ -19,9 +19,12 @@ The journal of a day, as gateway run --journal and gateway journal write it, is 
   C1 A1 side 1 executed 300 open 0 cancelled 0 value 70350000 agree
   ..
 
+A day that goes on is refused, unless --so-far is said: then what was written so far is audited, be it that the gateway
+runs or was killed, and standard error says how the file ends, as the day goes on: its file has no end.
+
 Values are in 1/10,000. The status is 0 where all orders agree, 1 where one doesn't, where memory runs out or a
-read or write fails, 2 at a line that isn't understood, a journal that is damaged (page N: FAULT, counted from 0), or a
-file that can't be read.";
+read or write fails, 2 at a line that isn't understood, a journal that is damaged (page N: FAULT, counted from 0), a
+day that goes on, without --so-far, or a file that can't be read.";
 
 /// Of `gateway journal`.
 pub(crate) const JOURNAL: &str = "\
@@ -60,7 +63,14 @@ The settings say where each client is listened for, and where each port of the m
 It ends when each client has connected and gone so often, and then prints the audit of its day, as gateway audit
 does. A port is connected again a second after its link is lost. Each link that comes and goes is told on standard
 error. With --journal FILE each step is in that file, synced, before anybody is told of it: a gateway that was killed
-goes on with its day when it is started again with the same file, and gateway audit --journal reads it once it is over.
+goes on with its day when it is started again with the same file, gateway end --journal ends a day that isn't to go on,
+and gateway audit --journal reads it.
+
+With --sync Nms, N from 1 to 60000, or --sync never, each step is with the system before anybody is told, and is synced
+each N milliseconds, or when the system does it. A gateway that is killed has lost nothing; but where the machine stops
+the last moment may be lost: what clients and ports were told then isn't in the file, and a gateway that goes on behind
+it gives numbers, OrderIDs and tokens a second time.
+
 The status is 0 where all orders agree, 1 where one doesn't, where memory runs out, a thread can't be had or the journal
 can't be written, 2 for settings that are refused, which the first key that is missing or wrong names, or a journal that
 is in use, over or damaged.";
@@ -82,7 +92,7 @@ time of day that the settings name. What an operator sets stands in the same set
 
 Each address is listened at before a port is connected. At the end no further link is taken, the market's answers are
 awaited for a while, the link of each client and then of each port is closed once what lay there for it is written, and
-the audit of the day is printed. Orders that are open at the market, or that it hasn't answered, are named on standard
+the audit of the day is printed. --journal and --sync are as gateway run has them. Orders that are open at the market, or that it hasn't answered, are named on standard
 error. The status is 0 where all orders agree, 1 as gateway run has it, 2 for settings that are refused, an address that
 can't be listened at, or a journal that is in use, over or damaged: then nothing was connected.";
 
@@ -93,7 +103,17 @@ The gateway is told over the address of [control] in its settings, and with thei
   $ gateway end --settings settings.toml
 
 The status is 0 once it has ended, 1 where it hasn't within 60 seconds, or refuses, 2 where nobody answers, or the
-settings are refused or name no address.";
+settings are refused or name no address.
+
+The day of a gateway that was killed, or whose machine stopped, is ended by its journal:
+
+  $ gateway end --journal monday.day --settings settings.toml
+
+What the journal has is stepped again and compared, each link that was up is gone, nobody is connected, the journal has
+its end, the audit of the day is printed, and orders that are open at the market, or that it hasn't answered, are named
+on standard error. The status is 0 where all orders agree, 1 where one doesn't, where the day isn't what these settings
+give, where memory runs out or the journal can't be written, 2 where the settings are refused, or for a journal that
+isn't there, is in use, over or damaged.";
 
 /// Of `gateway export`.
 pub(crate) const EXPORT: &str = "\
@@ -120,7 +140,17 @@ Two clients send three orders each, a simulated market takes and fills them, all
   orders 6 agree 6
 
 The status is 0 where all orders agree, 1 where one doesn't, and where a client waits ten seconds for an answer, with
-demo: not finished on standard error.";
+demo: not finished on standard error.
+
+With --serve the clients and the market go on trading, slowly, until it is told to end. It prints its settings, with the
+address of the page in front; in a file they are what gateway end is given:
+
+  $ gateway demo --serve | tee demo.toml
+  # the page: http://127.0.0.1:41571/
+  ..
+  $ gateway end --settings demo.toml
+
+Behind them stands the audit then. Ctrl-C ends it at once, without one.";
 
 /// Of `gateway world`.
 pub(crate) const WORLD: &str = "\

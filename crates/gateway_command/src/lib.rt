@@ -6,6 +6,6 @@ mod command;
 mod help;
 mod version;
 
-pub use asking::{Asked, links_of, number_between};
+pub use asking::{Asked, Syncs, links_of, number_between, syncs_of};
 pub use clap::Error;
 pub use command::{asked, is_version};

@@ -56,6 +56,13 @@ impl<'a, R: Clock, S: Read + Write + Drop> Client<'a, R, S> {
         self.wait_for(1, 35, b"A")
     }
 
+    /// Logs on with numbers that begin again at 1, and waits for the answer.
+    pub(crate) fn log_on_anew(&mut self) -> Result<(), DemoFault> {
+        self.next = 1;
+        self.say("A", b"98=0\x01108=30\x01141=Y\x01")?;
+        self.wait_for(1, 35, b"A")
+    }
+
     /// Logs out, and waits for the answer.
     pub fn log_out(&mut self) -> Result<(), DemoFault> {
         self.say("5", b"")?;
@@ -64,7 +71,12 @@ impl<'a, R: Clock, S: Read + Write + Drop> Client<'a, R, S> {
 
     /// Enters an order.
     pub fn buy(&mut self, order: &Order) -> Result<(), DemoFault> {
-        let Order { id, shares, limit } = order;
+        let Order { id, shares, limit } = *order;
+        self.enter(id, shares, limit)
+    }
+
+    /// Enters an order of this ClOrdID: so many shares at this limit.
+    pub(crate) fn enter(&mut self, id: &str, shares: u32, limit: &str) -> Result<(), DemoFault> {
         let mut body = Vec::new(self.alloc);
         write!(
             body,

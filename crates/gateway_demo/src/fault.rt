@@ -44,7 +44,7 @@ impl From<RunFault> for DemoFault {
     fn from(fault: RunFault) -> DemoFault {
         match fault {
             // A demonstration has no journal.
-            RunFault::NoMemory | RunFault::OtherDay(_) => DemoFault::NoMemory,
+            RunFault::NoMemory | RunFault::OtherDay(_) | RunFault::LinkUp => DemoFault::NoMemory,
             RunFault::NoThread => DemoFault::NoThread,
         }
     }

@@ -17,9 +17,18 @@ use Rattle.gateway_run.specs.contracts.clock.RunClock as RunClock
 use Rattle.gateway_run.specs.contracts.clock.Watch as Watch
 use Rattle.gateway_run.specs.contracts.port_faults.PortLinks as PortLinks
 use Rattle.gateway_run.specs.contracts.memory_watch.MemoryWatch as MemoryWatch
+use Rattle.host_log.specs.contracts.later.LaterSync as LaterSync
+use Rattle.gateway_run.specs.contracts.order_watch.OrderWatch as OrderWatch
 use Rattle.gateway_run.specs.contracts.run_gate.RunGate as RunGate
+use Rattle.gateway_run.specs.contracts.sync_timer.SyncTimer as SyncTimer
 use Rattle.gateway_run.specs.contracts.telling.Teller as Teller
 use Rattle.gateway_run.specs.contracts.telling_gate.TellingGate as TellingGate
+
+later_send : IsSend LaterSync.the_row
+later_send = search (sendable, crosses) depth 100 fits 500000
+
+timer_send : IsSend (SyncTimer.the_row LaterSync.the_row)
+timer_send = search (later_send, sendable, crosses) depth 100 fits 500000
 
 module _ (a : NamedLft) (R : RattleType) (r : IsSync R) where
   pub teller_send : IsSend (Teller.the_row a R)
@@ -35,6 +44,10 @@ module _ (a : NamedLft) (R : RattleType) (r : IsSync R) where
   pub memory_watch_send : IsSend (MemoryWatch.the_row a R)
   memory_watch_send = declared_send (MemoryWatch.the_type a R)
       (search (teller_send, sendable) depth 40, (search (sendable, crosses) depth 40, tt))
+
+  pub order_watch_send : IsSend (OrderWatch.the_row a R)
+  order_watch_send = declared_send (OrderWatch.the_type a R)
+      (search (r, sendable) depth 40, (search (sendable, crosses) depth 40, (search (sendable, crosses) depth 40, tt)))
 
 module _ (a : NamedLft) (K R : RattleType) (k : DeskName.Ghosts K.Denot) (r : IsSync R) where
   pub bell_send : (S T : RattleType) (g : BuildHasher.Ghosts S.Denot T.Denot) (h : Hasher.Ghosts T.Denot) → IsSend S
@@ -75,7 +88,16 @@ module _ (a : NamedLft) (K R : RattleType) (k : DeskName.Ghosts K.Denot) (r : Is
             search (sendable, crosses) depth 40,
             (
               search (board_sync, sendable) depth 40,
-              (search sendable, (search (memory_watch_send a R r, sendable) depth 40, (search sendable, tt))),
+              (
+                search sendable,
+                (
+                  search (memory_watch_send a R r, sendable) depth 40,
+                  (
+                    search sendable,
+                    (search (order_watch_send a R r, sendable) depth 40, (search (timer_send, sendable) depth 40, tt)),
+                  ),
+                ),
+              ),
             ),
           ),
         ),

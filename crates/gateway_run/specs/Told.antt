@@ -1,5 +1,5 @@
 -- A day that is over, and its audit, written.
-use Rattle.std.specs.Prelude.{◌≡◌, ℕ, List, Option}
+use Rattle.std.specs.Prelude.{◌≡◌, ℕ, List, [], Option}
 use Rattle.std.specs.Io.KnownBytes.{Appends}
 use Rattle.gate_law.specs.Settings.{Settings}
 use Rattle.gate_law.specs.Events.{History}
@@ -10,6 +10,7 @@ use Rattle.audit_lines.specs.gate_audit.Pairs.{accepted_pairs}
 use Rattle.audit_lines.specs.Lines.{shown_audit}
 use Rattle.audit_lines.specs.gate_audit.gate_journal.Kept.{turns}
 use Rattle.journal_file.specs.Said.{Says}
+use Rattle.open_links.specs.Links.{open_in}
 use Rattle.journal_file.specs.declared.ending.Ending.TheVariants.{Over}
 
 -- a day: its settings, its events with their batches, and the first fault of a link
@@ -17,6 +18,10 @@ pub record DayState : Type 0 where
   pub settings : Settings
   pub kept : Kept
   pub fault : Option LinkFault
+
+-- at the day's end no link is up: each that came has gone
+abbrev pub NobodyIsUp : DayState → Type 0
+NobodyIsUp day = open_in day.kept.events ≡ []
 
 -- what a writer has grew by just the audit of this history by these settings
 abbrev pub AuditIsToldOf : Settings → History → Option (List ℕ) → Option (List ℕ) → Type 0

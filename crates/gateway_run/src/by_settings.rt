@@ -1,9 +1,12 @@
 //! A gateway by its settings file.
 
-use crate::day::Day;
+ghost use Rattle.std.specs.Prelude.{IfOk};
+ghost use Rattle.gateway_run.specs.Told.{NobodyIsUp};
+
+use crate::day::{Day, with_nobody_up};
+use crate::day_journal::DayJournal;
 use crate::ends::{LinkRules, RunPlan};
 use crate::fault::RunFault;
-use crate::resuming::DayJournal;
 use crate::running::run_shown;
 use crate::telling::{Teller, Telling, Whose};
 use link_sockets::{Acceptor, Connector};
@@ -42,6 +45,39 @@ where
     let plan = plan_of(rt, alloc, &listens, &addresses, links, &is_over)?;
     let board = StatusBoard::new();
     run_shown(rt, alloc, hasher, settings, journal, plan, &is_over, &board)
+}
+
+/// Ends the day of a gateway that stopped, by its settings file and its journal, and gives it: what the journal has is
+/// stepped again and compared, then that each link that was up is gone; nobody is served; the journal gets its end.
+///
+/// `OtherDay` where another batch comes of an event: then the journal is as it was. `NoMemory` and `NoThread` come as
+/// `run` has them; the journal may go on then.
+pub fn end_stopped<R>(
+    rt: &R,
+    alloc: Global,
+    hasher: RandomState,
+    file: SettingsFile,
+    journal: DayJournal,
+) -> Result<Day, RunFault>
+where
+    R: Threads + Wait + Sync + Clock + Eprint + Net<Listener = TcpListener, Stream = TcpStream>,
+    ensures { IfOk result NobodyIsUp }
+{
+    let SettingsFile { settings, .. } = file;
+    let is_over = AtomicBool::new(true);
+    let plan = plan_of(rt, alloc, &[], &[], 0, &is_over)?;
+    let board = StatusBoard::new();
+    let day = run_shown(
+        rt,
+        alloc,
+        hasher,
+        settings,
+        Some(journal),
+        plan,
+        &is_over,
+        &board,
+    )?;
+    with_nobody_up(alloc, day)
 }
 
 /// The openers of a gateway: of its clients' links, and of its ports'.

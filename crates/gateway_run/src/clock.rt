@@ -2,8 +2,11 @@
 
 use crate::counted::ClientCounts;
 use crate::memory_watch::MemoryWatch;
+use crate::order_watch::OrderWatch;
+use crate::sync_timer::SyncTimer;
 use desk_gates::{DeskName, Shared};
 use gate_serving::Clock;
+use host_log::LaterSync;
 use link_sockets::SystemClock;
 use status_board::StatusBoard;
 use std::alloc::Global;
@@ -29,8 +32,8 @@ fn pause() -> Duration {
 
 /// The system's time, which never goes back, and pauses of a millisecond. That of the worker that has time pass pauses
 /// between two rounds of ticks, and meanwhile has what may wait written, and rounds made that others left, each
-/// millisecond. Once a second it puts how all stand onto the board. It also watches the clients, and ends the day where
-/// they are left alone: where a thread could not be had, say.
+/// millisecond. Once a second it puts how all stand onto the board. It has a journal synced whose syncs are left for
+/// later, and watches the clients: it ends the day where they are left alone, where a thread could not be had, say.
 #[derive(Drop)]
 pub(crate) struct RunClock<'a, K: DeskName, R> {
     clock: SystemClock<'a, R>,
@@ -47,14 +50,17 @@ impl<'a, K: DeskName, R: Wait + time::Clock + Eprint> RunClock<'a, K, R> {
     }
 
     /// Of the worker that has time pass for this desk: once these clients have been left alone for a hundred pauses
-    /// `is_over` is set, and how all stand goes onto this board. Takes no memory.
+    /// `is_over` is set, also once the journal is lost, and how all stand goes onto this board. It is told of orders
+    /// that wait at ports that aren't up; of each client `ports_of` has its port. Takes no memory.
     pub(crate) fn watching(
         rt: &'a R,
         alloc: Global,
         shared: &'a Shared<K, RandomState>,
         counts: &'a ClientCounts,
+        ports_of: &'a [u16],
         is_over: &'a AtomicBool,
         board: &'a StatusBoard,
+        syncs: Option<SyncTimer<LaterSync>>,
     ) -> RunClock<'a, K, R> {
         RunClock {
             clock: SystemClock::new(rt, pause()),
@@ -68,6 +74,8 @@ impl<'a, K: DeskName, R: Wait + time::Clock + Eprint> RunClock<'a, K, R> {
                 idle: 0,
                 memory: MemoryWatch::new(rt),
                 next_status: 0,
+                orders: OrderWatch::new(rt, ports_of),
+                syncs,
             }),
         }
     }
@@ -86,7 +94,7 @@ impl<'a, K: DeskName, R: Wait + time::Clock + Eprint> Clock for RunClock<'a, K, 
     }
 }
 
-/// Who looks for what waits to be written, whether clients are left alone, and whether memory is refused.
+/// Who looks for what waits to be written or synced, whether clients are left alone, and whether memory is refused.
 #[derive(Drop)]
 struct Watch<'a, K: DeskName, R> {
     rt: &'a R,
@@ -100,6 +108,9 @@ struct Watch<'a, K: DeskName, R> {
     memory: MemoryWatch<'a, R>,
     /// When the next status goes onto the board, by the clock.
     next_status: u64,
+    orders: OrderWatch<'a, R>,
+    /// What has the journal synced, where that is left for later.
+    syncs: Option<SyncTimer<LaterSync>>,
 }
 
 impl<'a, K: DeskName, R: Wait + time::Clock + Eprint> Watch<'a, K, R> {
@@ -111,6 +122,7 @@ impl<'a, K: DeskName, R: Wait + time::Clock + Eprint> Watch<'a, K, R> {
             self.shared.ring_waiting(self.rt);
             self.shared.turns_wanted(self.alloc);
             self.show(clock.now_ms());
+            self.sync(clock.now_ms());
             if clock.now_ms() >= end {
                 break;
             }
@@ -123,18 +135,32 @@ impl<'a, K: DeskName, R: Wait + time::Clock + Eprint> Watch<'a, K, R> {
         self.look();
     }
 
-    /// Puts how all stand onto the board, where a second has passed since it last was. While somebody reads the board it
-    /// is tried again with the next pause; where memory is refused, a second later.
+    /// Puts how all stand onto the board, where a second has passed since it last was, and has it told of orders that
+    /// wait. While somebody reads the board it is tried again with the next pause; where memory is refused, a second
+    /// later.
     fn show(&mut self, now: u64) {
         if now < self.next_status {
             return;
         }
         let is_done = match self.shared.status(self.rt, self.alloc) {
-            Ok(status) => self.board.put(status, now),
+            Ok(status) => {
+                self.orders.look(&status, now);
+                self.board.put(status, now)
+            }
             Err(_) => true,
         };
         if is_done {
             self.next_status = now.saturating_add(BETWEEN_STATUSES);
+        }
+    }
+
+    /// Has the journal synced, where that is due, and ends the day where it failed: its file takes nothing any more, so
+    /// nobody is told anything.
+    fn sync(&mut self, now: u64) {
+        if let Some(syncs) = &mut self.syncs {
+            if syncs.look(now) {
+                self.is_over.store(true, Ordering::SeqCst);
+            }
         }
     }
 

@@ -2,12 +2,13 @@
 
 ghost use Rattle.std.specs.Prelude.{◌≡◌, ◌≤◌, true, IfOk};
 ghost use Rattle.audit_lines.specs.gate_audit.gate_journal.Kept.{turns};
-ghost use Rattle.gateway_run.specs.Told.{AuditIsTold, AuditIsToldOf, IsFileSaying};
+ghost use Rattle.gateway_run.specs.Told.{AuditIsTold, AuditIsToldOf, IsFileSaying, NobodyIsUp};
 
 use crate::fault::RunFault;
 use audit_lines::{History, ReadingFault, Settings, audit, write_audit};
 use gate_serving::LinkFault;
 use journal_file::{DayFile, Ending, FileFault, PageFault, read_file};
+use open_links::open_links;
 use same_days::first_other;
 use std::alloc::{AllocError, Global};
 use std::io::Write;
@@ -83,6 +84,27 @@ impl Day {
     {
         self.fault
     }
+}
+
+/// The same day, where no link is up at its end; else `LinkUp`.
+pub(crate) fn with_nobody_up(alloc: Global, day: Day) -> Result<Day, RunFault>
+    ensures same { IfOk result (λ same. same ≡ day) }
+    ensures nobody { IfOk result NobodyIsUp }
+{
+    if is_nobody_up(alloc, &day)? {
+        Ok(day)
+    } else {
+        Err(RunFault::LinkUp)
+    }
+}
+
+/// Whether no link is up at the end of a day: each that came has gone.
+fn is_nobody_up(alloc: Global, day: &Day) -> Result<bool, AllocError>
+    ensures { IfOk result (λ is. is ≡ true → NobodyIsUp day.now) }
+{
+    let events = day.history().events(alloc)?;
+    let links = open_links(alloc, events.as_slice())?;
+    Ok(links.is_empty())
 }
 
 /// Writes the audit of a day to `output`: a line for each order that was accepted, and one for how many there are and
@@ -180,6 +202,7 @@ pub fn tell<F: Write>(fault: RunFault, faults: &mut F) -> u8
             faults,
             "gateway: journal: event {place} isn't what these settings give"
         ),
+        RunFault::LinkUp => writeln!(faults, "gateway: journal: a link is up at the day's end"),
     };
     1
 }

@@ -13,6 +13,8 @@ pub enum RunFault {
     /// The batch of the event at this place of the journal, from 0, isn't the one that these settings, or this program,
     /// give.
     OtherDay(u64),
+    /// A link is up at the end of a day that nobody serves.
+    LinkUp,
 }
 
 impl From<AllocError> for RunFault {

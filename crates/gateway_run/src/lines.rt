@@ -8,6 +8,7 @@ use crate::counted::{ClientCounts, CountedLinks};
 use crate::port_faults::PortLinks;
 use crate::run_gate::RunGate;
 use crate::run_opener::RunOpener;
+use crate::sync_timer::SyncTimer;
 use crate::telling::{Teller, Whose};
 use crate::telling_gate::TellingGate;
 use desk_gates::{
@@ -16,6 +17,7 @@ use desk_gates::{
 };
 use gate_events::{Recipient, Source};
 use gate_serving::{Line, LinkFault, PenWorker, Ticks, Worker};
+use host_log::LaterSync;
 use status_board::StatusBoard;
 use std::alloc::{AllocError, Global};
 use std::hash::RandomState;
@@ -93,18 +95,20 @@ where
     }
 }
 
-/// Ticks for so many clients and ports through the clock's inlet, where they are due, until `is_over` is set, and how
-/// all stand onto this board. None through another's.
+/// Ticks for so many clients and ports through the clock's inlet, where they are due, until `is_over` is set, how all
+/// stand onto this board, and a journal's later syncs; of each client `ports_of` has its port. None through another's.
 pub(crate) fn ticks_of<'p, 'a, W: Prompt + Drop, G: OutletEnd + Drop, K, R>(
     rt: &'a R,
     alloc: Global,
     shared: &'a Shared<K, RandomState>,
     count: Count,
+    ports_of: &'a [u16],
     counts: &'a ClientCounts,
     is_over: &'a AtomicBool,
     board: &'a StatusBoard,
     inlet: Inlet<K>,
     pens: &'p [OutletPen<W, G>],
+    syncs: Option<SyncTimer<LaterSync>>,
 ) -> Option<RunTicks<'p, 'a, W, G, K, R>>
 where
     K: DeskName,
@@ -121,7 +125,7 @@ where
             ports,
             is_over,
             gate,
-            clock: RunClock::watching(rt, alloc, shared, counts, is_over, board),
+            clock: RunClock::watching(rt, alloc, shared, counts, ports_of, is_over, board, syncs),
         });
     }
     None

@@ -2,11 +2,13 @@
 
 ghost use Rattle.std.specs.Prelude.{◌≡◌, length};
 
+use crate::day_journal::DayJournal;
 use crate::fault::RunFault;
-use audit_lines::History;
-use desk_gates::{DayLog, DeskName, HostFile, Inlet, Outlet, Shared, ToldOutlets};
+use crate::sync_timer::SyncTimer;
+use desk_gates::{DayLog, DeskName, Inlet, Outlet, Shared, ToldOutlets};
 use gate_events::Event;
 use gate_serving::Clock as _;
+use host_log::LaterSync;
 use link_sockets::SystemClock;
 use open_links::open_links;
 use std::alloc::Global;
@@ -17,11 +19,12 @@ use std::time::{Clock, Duration};
 /// So many lists lie at an outlet at most.
 const MOST_LISTS: u32 = 4_096;
 
-/// Where a day is written ahead, and what is there of it: nothing, of a day that begins.
-#[derive(Drop)]
-pub struct DayJournal {
-    pub file: HostFile,
-    pub day: History,
+/// What has a journal synced later, taken out of it.
+pub(crate) fn take_syncs(journal: &mut Option<DayJournal>) -> Option<SyncTimer<LaterSync>> {
+    match journal {
+        Some(journal) => journal.syncs.take(),
+        None => None,
+    }
 }
 
 /// Steps the events of a journal's day again by a desk that was opened just now, compares what comes of them, has the
@@ -39,7 +42,7 @@ pub(crate) fn go_on<K: DeskName, R: Wait + Clock>(
 ) -> Result<(), RunFault>
     ensures { length inlets.new.items ≡ length inlets.old.items }
 {
-    let Some(DayJournal { file, day }) = journal else {
+    let Some(DayJournal { file, day, .. }) = journal else {
         return Ok(());
     };
     let events = day.events(alloc)?;
@@ -47,10 +50,9 @@ pub(crate) fn go_on<K: DeskName, R: Wait + Clock>(
     for event in events {
         step_again(rt, alloc, shared, inlets, outlets, event)?;
     }
-    if let Some(place) = shared.first_other(rt, &day) {
+    if let Some(place) = shared.go_on(rt, DayLog::over(alloc, file), &day)? {
         return Err(RunFault::OtherDay(place));
     }
-    shared.begin_journal(rt, DayLog::over(alloc, file))?;
     let at = SystemClock::new(rt, Duration::ZERO).now_ms();
     for link in links {
         step_again(rt, alloc, shared, inlets, outlets, link.gone(at))?;

@@ -7,15 +7,19 @@ ghost use Rattle.desk_gates.specs.desk.Settling.{AreSettled};
 
 use crate::counted::{ClientCounts, CountedLinks};
 use crate::day::Day;
+use crate::day_journal::DayJournal;
 use crate::ends::{Ends, RunPlan, ends_of};
 use crate::fault::RunFault;
 use crate::lines::{Count, Left, pens_of, ticks_of};
-use crate::resuming::{DayJournal, go_on};
+use crate::order_watch::ports_of_clients;
+use crate::resuming::{go_on, take_syncs};
+use crate::sync_timer::SyncTimer;
 use audit_lines::Settings;
 use desk_gates::{
     Closed, DeskName, Finished, Inlet, OutletEnd, OutletPen, Parts, Prompt, Shared, open_desk,
 };
 use gate_serving::{Closer, Opener, serve};
+use host_log::LaterSync;
 use status_board::StatusBoard;
 use std::alloc::{AllocError, Global};
 use std::hash::RandomState;
@@ -85,8 +89,12 @@ where
         clients: settings.clients().len() as u16,
         ports: settings.ports().len() as u16,
     };
+    let ports_of = ports_of_clients(alloc, &settings)?;
     let parts = Parts::with_hasher(alloc, hasher, settings)?;
-    run_desk::<Brand, R, A, C>(rt, alloc, parts, journal, count, plan, is_over, board)
+    let ports_of = ports_of.as_slice();
+    run_desk::<Brand, R, A, C>(
+        rt, alloc, parts, journal, count, ports_of, plan, is_over, board,
+    )
 }
 
 /// Opens the desk of these parts, serves it and closes it.
@@ -96,6 +104,7 @@ fn run_desk<K, R, A, C>(
     parts: Parts<RandomState>,
     journal: Option<DayJournal>,
     count: Count,
+    ports_of: &[u16],
     plan: RunPlan<A, C>,
     is_over: &AtomicBool,
     board: &StatusBoard,
@@ -112,6 +121,8 @@ where
     requires clock { 0 < length parts.inlets }
 {
     let (shared, mut inlets, mut outlets) = open_desk::<K, RandomState>(alloc, parts)?;
+    let mut journal = journal;
+    let syncs = take_syncs(&mut journal);
     go_on(rt, alloc, &shared, &mut inlets, &mut outlets, journal)?;
     let counts = ClientCounts::of(plan.clients.len().min(usize::from(count.clients)) as u32);
     let pens = pens_of::<A::Writer, K, R>(rt, alloc, &shared, outlets, plan.rules.tells_frames)?;
@@ -119,6 +130,7 @@ where
         rt,
         alloc,
         count,
+        ports_of,
         &shared,
         &counts,
         inlets,
@@ -126,6 +138,7 @@ where
         plan,
         is_over,
         board,
+        syncs,
     )?;
     left.end_outlets(pens)?;
     let closed = close_desk(rt, alloc, shared, left.finished)?;
@@ -164,11 +177,12 @@ fn close_desk<K: DeskName, R: Clock>(
 }
 
 /// Serves the ends of a desk, the last inlet being the clock's, until the clients' links have been served, and ends
-/// them. Time passes in the calling thread.
+/// them. Time passes in the calling thread, which has the journal synced where that is left for later.
 fn serve_desk<'p, 'a, K, R, A, C, G>(
     rt: &'a R,
     alloc: Global,
     count: Count,
+    ports_of: &'a [u16],
     shared: &'a Shared<K, RandomState>,
     counts: &'a ClientCounts,
     inlets: Vec<Inlet<K>>,
@@ -176,6 +190,7 @@ fn serve_desk<'p, 'a, K, R, A, C, G>(
     plan: RunPlan<A, C>,
     is_over: &'a AtomicBool,
     board: &'a StatusBoard,
+    syncs: Option<SyncTimer<LaterSync>>,
 ) -> Result<Left<K>, RunFault>
 where
     K: DeskName + Send + Sync,
@@ -202,7 +217,7 @@ where
     let ends = ends_of(rt, alloc, shared, inlets, pens, clients, ports, rules)?;
     let Ends { lines, .. } = ends;
     let ticks = ticks_of(
-        rt, alloc, shared, count, counts, is_over, board, clock, pens,
+        rt, alloc, shared, count, ports_of, counts, is_over, board, clock, pens, syncs,
     );
     match serve(rt, alloc, lines, ticks) {
         Ok((lines, ticks)) => {

@@ -13,3 +13,9 @@ pub record HasJust (bytes : List ℕ) (file : HostFile) : Type 0 where
 abbrev pub HasNothing : FoundLog → Type 0
 HasNothing (New file) = HasJust [] file
 HasNothing (There stopped) = Unit {0}
+
+-- one file has what another has, and as much of it durable, as it was noted
+pub record IsSameFile (file same : HostFile) : Type 0 where
+  pub noted : same.noted.bytes ≡ file.noted.bytes
+  pub durable : same.durable ≡ file.durable
+  pub failures : same.failures.bytes ≡ file.failures.bytes

@@ -3,27 +3,13 @@
 ghost use Rattle.std.specs.Prelude.{◌≡◌, [], take, IfOk};
 ghost use Rattle.host_log.specs.Whole.{HasJust, HasNothing};
 
+use crate::fault::{OpenFault, fault_of};
 use crate::host_file::HostFile;
 use std::alloc::Global;
 use std::fs::{File, Files, OpenOptions, TryLockError};
 use std::io::{self, ErrorKind, Read};
 use std::os::unix::fs::OpenOptionsExt;
 use std::path::Path;
-use thiserror::Error;
-
-/// Why a log's file can't be had.
-#[derive(Clone, Copy, Debug, PartialEq, Eq, Drop, Error)]
-pub enum OpenFault {
-    /// Another process has it.
-    #[error("in use")]
-    InUse,
-    /// It can't be made, opened, read, cut or made durable.
-    #[error("cannot write")]
-    Failed,
-    /// Memory ran out.
-    #[error("out of memory")]
-    NoMemory,
-}
 
 /// A log's file that was opened.
 #[derive(Drop)]
@@ -79,7 +65,7 @@ pub fn open_log<R: Files<File = File>>(
             Ok(FoundLog::New(HostFile::with(file, &[])))
         }
         Err(error) if error.kind() == ErrorKind::AlreadyExists => {
-            let stopped = find(rt, alloc, path)?;
+            let stopped = find_log(rt, alloc, path)?;
             Ok(FoundLog::There(stopped))
         }
         Err(error) => Err(fault_of(&error)),
@@ -97,8 +83,12 @@ fn make_new<R: Files<File = File>>(rt: &R, path: &str) -> io::Result<File> {
         .open(rt, path)
 }
 
-/// Opens a file that is there, locks it, and reads it.
-fn find<R: Files<File = File>>(rt: &R, alloc: Global, path: &str) -> Result<StoppedLog, OpenFault> {
+/// Opens a log's file that is there, locks it as `open_log` does, and reads it. `Missing` where it isn't there.
+pub fn find_log<R: Files<File = File>>(
+    rt: &R,
+    alloc: Global,
+    path: &str,
+) -> Result<StoppedLog, OpenFault> {
     let mut options = OpenOptions::new();
     let mut file = match options.read(true).append(true).open(rt, path) {
         Ok(file) => file,
@@ -152,14 +142,5 @@ fn cut(file: &File, size: u64) -> Result<(), OpenFault> {
     match cut {
         Ok(()) => Ok(()),
         Err(error) => Err(fault_of(&error)),
-    }
-}
-
-/// Why a file can't be had.
-fn fault_of(error: &io::Error) -> OpenFault {
-    if error.kind() == ErrorKind::OutOfMemory {
-        OpenFault::NoMemory
-    } else {
-        OpenFault::Failed
     }
 }

@@ -22,6 +22,14 @@ pub record IsAuditOfFile (s : Settings) (file : List ℕ) (old new : Option (Lis
   pub written : Appends old new (shown_audit (pairs s (turns day)))
   pub run : Holds s (turns day) → Appends old new (shown_audit (accepted_pairs s (turns day)))
 
+-- The same of a file of a day that is over or goes on: of what its whole pages say.
+pub record IsAuditSoFar (s : Settings) (file : List ℕ) (old new : Option (List ℕ)) : Type 0 where
+  pub day : Kept
+  pub ending : Ending
+  pub says : Says file day ending
+  pub written : Appends old new (shown_audit (pairs s (turns day)))
+  pub run : Holds s (turns day) → Appends old new (shown_audit (accepted_pairs s (turns day)))
+
 -- the file is none, for this page and fault
 pub record IsNoDaysFile (file : List ℕ) : Type 0 where
   pub number : ℕ

@@ -46,6 +46,18 @@ pub fn audit_file<W: Write, F: Write>(
     }
 }
 
+/// Tells how the file of a day that goes on ends; nothing of one that is over.
+pub(crate) fn tell_ending<F: Write>(ending: Ending, faults: &mut F) {
+    let _ = match ending {
+        Ending::Over => Ok(()),
+        Ending::GoesOn => writeln!(faults, "the day goes on: its file has no end"),
+        Ending::Torn(bytes) => writeln!(
+            faults,
+            "the day goes on: its file ends with {bytes} bytes of a write that was cut short"
+        ),
+    };
+}
+
 /// Writes the audit of a file that was read, where its day is over.
 fn audit_read<W: Write, F: Write>(
     alloc: Global,
@@ -66,22 +78,15 @@ fn audit_read<W: Write, F: Write>(
 {
     match read.ending {
         Ending::Over => write_day_audit(alloc, &read.day, settings, output, faults),
-        Ending::GoesOn => {
-            let _ = writeln!(faults, "the day goes on: its file has no end");
-            2
-        }
-        Ending::Torn(bytes) => {
-            let _ = writeln!(
-                faults,
-                "the day goes on: its file ends with {bytes} bytes of a write that was cut short"
-            );
+        Ending::GoesOn | Ending::Torn(_) => {
+            tell_ending(read.ending, faults);
             2
         }
     }
 }
 
 /// Writes the audit of a history over pages.
-fn write_day_audit<W: Write, F: Write>(
+pub(crate) fn write_day_audit<W: Write, F: Write>(
     alloc: Global,
     day: &History,
     settings: &Settings,
@@ -113,7 +118,7 @@ fn tell_unread<F: Write>(fault: ReadingFault, faults: &mut F) -> u8
 }
 
 /// Tells why a file is none, and answers 2; 1 where memory ran out.
-fn tell_refusal<F: Write>(number: u32, fault: FileFault, faults: &mut F) -> u8
+pub(crate) fn tell_refusal<F: Write>(number: u32, fault: FileFault, faults: &mut F) -> u8
     ensures status { result ≤ 2 }
     ensures from_one { 1 ≤ result }
     ensures refused { result ≡ 2 → fault ≡ Page NoMemory → ⊥ }

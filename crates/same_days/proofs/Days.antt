@@ -19,6 +19,7 @@ same-day : (a b : Kept) (p q : List (List ℕ)) → a ≡ kept_in p → b ≡ ke
 same-day a b p q first second records = record {
   events = ap (λ (k : Kept). k.events) first ∙ ap events_in records ∙ sym (ap (λ (k : Kept). k.events) second);
   batches = ap (λ (k : Kept). k.batches) first ∙ ap batches_in records ∙ sym (ap (λ (k : Kept). k.batches) second);
+  records = ap (λ (k : Kept). day_records Two k.pages) first ∙ records ∙ sym (ap (λ (k : Kept). day_records Two k.pages) second);
 }
 
 pub compared : (a b : Kept) (p q : List (List ℕ)) (left right : List Record) → a ≡ kept_in p → b ≡ kept_in q

@@ -9,6 +9,7 @@ use Rattle.same_records.specs.Apart.{DifferBehind}
 pub record IsSameDay (a b : Kept) : Type 0 where
   pub events : a.events ≡ b.events
   pub batches : a.batches ≡ b.batches
+  pub records : day_records Two a.pages ≡ day_records Two b.pages
 
 -- other records, behind so many batches that are the same
 abbrev pub IsOtherAt : ℕ → Kept → Kept → Type 0

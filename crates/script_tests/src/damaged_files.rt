@@ -1,6 +1,6 @@
 //! Files that aren't of a day that is over.
 
-use super::running::{assert_ran, audited_file};
+use super::running::{assert_ran, audited_file, audited_so_far};
 use std::alloc::{AllocError, Global};
 use std::process::Abort;
 use std::test::Fail;
@@ -56,14 +56,38 @@ fn a_file_without_orders(rt: HostRuntime) -> Result<(), Fail> {
 }
 
 /// A file that ends before its end is of a day that goes on, wherever it is cut: behind whole pages, or in a write that
-/// was cut short, of the page or of the end.
+/// was cut short, of the page or of the end. So far it has no order.
 #[test]
 fn each_front_of_a_file(rt: HostRuntime) -> Result<(), Fail> {
     for size in 0..ONE_UP.len() {
         let torn = if size < 74 { size } else { size - 74 };
         let told = goes_on(rt.alloc(), torn)?;
-        refuses(&rt, rt.alloc(), &ONE_UP[..size], told.as_str())?;
+        let front = &ONE_UP[..size];
+        refuses(&rt, rt.alloc(), front, told.as_str())?;
+        has_no_orders_so_far(&rt, rt.alloc(), front, told.as_str())?;
     }
+    Ok(())
+}
+
+/// A file without an order is audited so far, and this is told.
+fn has_no_orders_so_far(
+    rt: &impl Abort,
+    alloc: Global,
+    file: &[u8],
+    told: &str,
+) -> Result<(), Fail> {
+    let run = audited_so_far(alloc, file)?;
+    assert_ran(rt, &run, "orders 0 agree 0\n", told, 0, told);
+    Ok(())
+}
+
+/// A file that is damaged is none so far either.
+#[test]
+fn a_damaged_file_so_far(rt: HostRuntime) -> Result<(), Fail> {
+    let mut damaged = *ONE_UP;
+    damaged[51] = 0x10;
+    let run = audited_so_far(rt.alloc(), &damaged)?;
+    assert_ran(&rt, &run, "", "page 0: sum\n", 2, "a damaged file");
     Ok(())
 }
 

@@ -1,8 +1,9 @@
 //! The day of a script as a file, and its audit.
 
-use super::running::{Run, assert_ran, audited_file};
+use super::running::{Run, assert_ran, audited_file, audited_so_far};
 use journal_audit::script_file;
 use std::alloc::Global;
+use std::process::Abort;
 use std::test::Fail;
 
 /// An order of 300 shares at 23.45 that is executed whole, and one of 100 at 10 that stays open.
@@ -36,6 +37,39 @@ fn the_day_of_a_script_is_audited(rt: HostRuntime) -> Result<(), Fail> {
     let day = filed(rt.alloc(), SCRIPT);
     let run = audited_file(rt.alloc(), day.output.as_slice())?;
     assert_ran(&rt, &run, AUDIT, "", 0, "the day of a script");
+    Ok(())
+}
+
+/// So far it is audited so, too: over, without its end, which are sixteen bytes, and with five of these.
+#[test]
+fn the_day_of_a_script_so_far(rt: HostRuntime) -> Result<(), Fail> {
+    let day = filed(rt.alloc(), SCRIPT);
+    let file = day.output.as_slice();
+    let whole = file.len().saturating_sub(16);
+    is_audited(&rt, rt.alloc(), file, "")?;
+    let goes_on = "the day goes on: its file has no end\n";
+    is_audited(&rt, rt.alloc(), front_of(file, whole), goes_on)?;
+    let torn = "the day goes on: its file ends with 5 bytes of a write that was cut short\n";
+    is_audited(
+        &rt,
+        rt.alloc(),
+        front_of(file, whole.saturating_add(5)),
+        torn,
+    )
+}
+
+/// So many bytes of a file, or all.
+fn front_of(file: &[u8], size: usize) -> &[u8] {
+    match file.get(..size) {
+        Some(front) => front,
+        None => file,
+    }
+}
+
+/// What a file has so far is audited as the script is, and this is told.
+fn is_audited(rt: &impl Abort, alloc: Global, file: &[u8], told: &str) -> Result<(), Fail> {
+    let run = audited_so_far(alloc, file)?;
+    assert_ran(rt, &run, AUDIT, told, 0, "the day of a script so far");
     Ok(())
 }
 

@@ -1,7 +1,7 @@
 //! Running a script, and auditing a file, over memory.
 
 use gate_lines::{Flags, run_script, run_script_with};
-use journal_audit::audit_file;
+use journal_audit::{audit_file, audit_so_far};
 use script_steps::fixed_settings;
 use std::alloc::{AllocError, Global};
 use std::hash::BuildHasher;
@@ -56,6 +56,19 @@ pub fn audited_file(alloc: Global, file: &[u8]) -> Result<Run, Fail> {
     let mut output = Vec::new(alloc);
     let mut faults = Vec::new(alloc);
     let status = audit_file(alloc, file, &settings, &mut output, &mut faults);
+    Ok(Run {
+        output,
+        faults,
+        status,
+    })
+}
+
+/// Audits what a file of a day of the fixed settings has so far.
+pub fn audited_so_far(alloc: Global, file: &[u8]) -> Result<Run, Fail> {
+    let settings = fixed_settings(alloc)?;
+    let mut output = Vec::new(alloc);
+    let mut faults = Vec::new(alloc);
+    let status = audit_so_far(alloc, file, &settings, &mut output, &mut faults);
     Ok(Run {
         output,
         faults,

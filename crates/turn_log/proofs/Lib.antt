@@ -1,0 +1,4 @@
+mod GoesOn
+mod Read
+mod Behind
+pub mod Keeping

@@ -1,1 +1,4 @@
+pub mod Kept
 pub mod Since
+pub use Rattle.day_log.specs.Log
+pub use Rattle.journal_days.specs.Cut

@@ -1,9 +1,7 @@
 -- What a page that is written ahead has: the records that pages have behind a mark. The format is the gateway's own.
-use Rattle.std.specs.Prelude.{ℕ, zero, suc, ◌%◌, ◌^◌, List, [], ◌∷◌, ◌++◌, length, drop, Vec}
+use Rattle.std.specs.Prelude.{ℕ, zero, suc, List, [], ◌∷◌, ◌++◌, drop, Vec}
 use Rattle.std.specs.declared.alloc.Global.{Global}
-use Rattle.journal_days.specs.declared.records.DayRecords.{DayRecords}
 use Rattle.journal_days.specs.Cut.{texts}
-use Rattle.journal_days.specs.Left.{records_left}
 
 -- the records of whole pages, as bytes
 abbrev pub bytes_of : List (List ℕ) → List ℕ
@@ -19,7 +17,3 @@ bytes_from bytes (page ∷ pages) = drop bytes page ++ bytes_of pages
 abbrev pub bytes_since : ℕ → ℕ → List (Vec ℕ Global) → List ℕ
 bytes_since zero bytes pages = bytes_of (texts pages)
 bytes_since (suc whole) bytes pages = bytes_from bytes (texts (drop whole pages))
-
--- how many records there are, as a number of 64 bits
-abbrev pub counted : DayRecords → ℕ
-counted records = length (records_left records) % 2 ^ 64

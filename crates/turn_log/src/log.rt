@@ -1,54 +1,104 @@
 //! The log.
 
-use crate::mark::{Mark, count, mark_at, page_since};
+ghost use Rattle.std.specs.Prelude.{◌≡◌, ◌<◌, ◌≤◌, ◌++◌, ◌∷◌, [], List, None, OnErr, OnOk, length, ℕ};
+ghost use Rattle.gate_journal.specs.Kept.{kept_in};
+ghost use Rattle.journal_days.specs.Cut.{IsMoreOf};
+ghost use Rattle.day_log.specs.Log.{IsSettled};
+ghost use Rattle.turn_log.specs.Kept.{HasDay, HasPages, StandsAt};
+
+use crate::mark::{FRONT, Mark, count_in_page, count_in_pages, mark_at, page_since};
 use day_log::{DayLog, LogFault, LogFile};
 use gate_journal::History;
-use journal_days::{DayRecords, Version};
 use std::alloc::Global;
+use std::marker::Model;
 
-/// The log of a history that grows: how far it has it, and the log's file.
+/// The log of a history that grows: how far it has it, and the log's file. Contracts see both.
 #[derive(Drop)]
 pub struct TurnLog<F: LogFile> {
     log: DayLog<F>,
     mark: Mark,
 }
 
+impl<F: LogFile> Model for TurnLog<F> {
+    ghost use Rattle.turn_log.specs.Kept.{TurnLogState};
+
+    ghost Value = { TurnLogState F };
+
+    ghost view = { λ l. record {
+      file = l.log.file;
+      shut = l.log.shut;
+      pages = l.mark.pages;
+      bytes = l.mark.bytes;
+      records = l.mark.records;
+    } };
+}
+
 impl<F: LogFile> TurnLog<F> {
     /// The log of a history of which it has all so far. Takes no memory.
-    pub fn of(log: DayLog<F>, history: &History) -> TurnLog<F> {
+    pub fn of(log: DayLog<F>, history: &History) -> TurnLog<F>
+        ensures file { result.file ≡ log.file }
+        ensures shut { result.shut ≡ log.shut }
+        ensures mark { StandsAt history.now.pages result }
+        ensures history { history.now ≡ kept_in history.now.pages }
+    {
         let pages = history.pages();
-        let records = count(DayRecords::of(Version::Two, pages));
         TurnLog {
             log,
-            mark: mark_at(pages, records),
+            mark: mark_at(pages, count_in_pages(pages)),
         }
     }
 
     /// Has in the log, durably, all that the history has: as one page what the log didn't have yet, nothing where it
-    /// has all. A history that is handed in is the one of the calls before, and has what it had, and more behind.
+    /// has all. A history that is handed in has what that of the call before had, and more records behind.
     ///
-    /// `Failed` where the file fails, and from then on; `NoMemory` leaves the log as it was.
-    pub fn keep(&mut self, alloc: Global, history: &History) -> Result<(), LogFault> {
+    /// `Failed` where the file fails, and from then on; `NoMemory` leaves the log as it was. Whatever it answers, each
+    /// crash leaves what the log had.
+    pub fn keep(&mut self, alloc: Global, history: &History) -> Result<(), LogFault>
+        ensures told { OnOk result ((before : List (List ℕ)) → HasDay F.seen F.may_leave before self.old
+            → IsMoreOf before history.now.pages → HasDay F.seen F.may_leave history.now.pages self.new) }
+        ensures kept { OnErr result ((before : List (List ℕ)) → HasDay F.seen F.may_leave before self.old
+            → HasDay F.seen F.may_leave before self.new) }
+        ensures history { history.now ≡ kept_in history.now.pages }
+    {
         let pages = history.pages();
-        let now = mark_at(pages, self.mark.records);
-        if now == self.mark {
+        if mark_at(pages, self.mark.records) == self.mark {
             return Ok(());
         }
         let page = page_since(alloc, pages, &self.mark)?;
-        let mut written = Vec::with_capacity(alloc, 1)?;
-        if written.push(page).is_err() {
-            return Err(LogFault::NoMemory);
-        }
-        let more = count(DayRecords::of(Version::Two, written.as_slice()));
-        for page in written.as_slice() {
-            self.log.commit(page.as_slice())?;
-        }
-        self.mark = mark_at(pages, self.mark.records.wrapping_add(more));
+        put_page(&mut self.log, page.as_slice())?;
+        let records = self
+            .mark
+            .records
+            .wrapping_add(count_in_page(page.as_slice()));
+        self.mark = mark_at(pages, records);
         Ok(())
     }
 
     /// Adds the end of a day that is over; the log takes nothing behind it. It has to have all of the history.
-    pub fn end(&mut self) -> Result<(), LogFault> {
+    ///
+    /// `Failed` where the file fails, and from then on; `NoMemory` leaves the log as it was. Whatever it answers, each
+    /// crash leaves what the log had.
+    pub fn end(&mut self) -> Result<(), LogFault>
+        ensures kept { (before : List (List ℕ)) → HasDay F.seen F.may_leave before self.old
+            → HasDay F.seen F.may_leave before self.new }
+    {
         self.log.end()
     }
+}
+
+/// Adds a page to a log, unless it has no records: then there is nothing to be added.
+fn put_page<F: LogFile>(log: &mut DayLog<F>, page: &[u8]) -> Result<(), LogFault>
+    ensures none { OnOk result (length page.now ≤ 12 → log.new ≡ log.old) }
+    ensures some { OnOk result (12 < length page.now → (pages : List (List ℕ))
+        → IsSettled F.seen F.may_leave pages log.old.file
+        → IsSettled F.seen F.may_leave (pages ++ page.now ∷ []) log.new.file) }
+    ensures goes_on { OnOk result (12 < length page.now → (log.old.shut ≡ None) × (log.new.shut ≡ None)) }
+    ensures kept { OnErr result ((before : List (List ℕ))
+        → HasPages F.seen F.may_leave before log.old.file log.old.shut
+        → HasPages F.seen F.may_leave before log.new.file log.new.shut) }
+{
+    if page.len() <= FRONT {
+        return Ok(());
+    }
+    log.commit(page)
 }

@@ -1,18 +1,21 @@
 //! How far a history is in its log.
 
-ghost use Rattle.std.specs.Prelude.{◌≡◌, ◌++◌, drop, length, IfOk, OnOk};
+ghost use Rattle.std.specs.Prelude.{◌≡◌, ◌%◌, ◌^◌, ◌++◌, drop, length, IfOk, OnOk};
 ghost use Rattle.journal_days.specs.Cut.{last_size, texts};
-ghost use Rattle.journal_pages.specs.Page.{page_front};
-ghost use Rattle.turn_log.specs.Since.{bytes_from, bytes_of, bytes_since, counted};
+ghost use Rattle.journal_days.specs.Day.{day_records};
+ghost use Rattle.journal_pages.specs.Page.{page_front, page_records};
+ghost use Rattle.journal_pages.specs.Seen.{records_ahead};
+ghost use Rattle.journal_pages.specs.declared.version.Version.TheVariants.{Two};
+ghost use Rattle.turn_log.specs.Since.{bytes_from, bytes_of, bytes_since};
 
-use journal_days::DayRecords;
+use journal_pages::Records;
 use std::alloc::{AllocError, Global};
 
 /// What a page begins with: the journal's name and version.
 const PAGE_NAME: &[u8; 4] = b"GJ02";
 
 /// So many bytes stand before the records of a page.
-const FRONT: usize = 12;
+pub(crate) const FRONT: usize = 12;
 
 /// How far a history's pages are in its log: how many pages there are, how many bytes the last one has, and how many
 /// records all of them.
@@ -26,10 +29,11 @@ pub(crate) struct Mark {
 /// Where these pages end, behind so many records. Takes no memory.
 pub(crate) fn mark_at(pages: &[Vec<u8>], records: u64) -> Mark
     ensures pages { result.pages ≡ length pages.now }
+    ensures bytes { result.bytes ≡ last_size (texts pages.now) }
     ensures records { result.records ≡ records }
 {
     let bytes = match pages.last() {
-        Some(last) => last.len(),
+        Some(last) => last.as_slice().len(),
         None => 0,
     };
     Mark {
@@ -39,9 +43,32 @@ pub(crate) fn mark_at(pages: &[Vec<u8>], records: u64) -> Mark
     }
 }
 
-/// How many records there are, as a number of 64 bits. Takes no memory.
-pub(crate) fn count(records: DayRecords<'_>) -> u64
-    ensures { result ≡ counted records.entry }
+/// How many records these pages have, as a number of 64 bits. Takes no memory.
+pub(crate) fn count_in_pages(pages: &[Vec<u8>]) -> u64
+    ensures { result ≡ length (day_records Two (texts pages.now)) % 2 ^ 64 }
+{
+    let mut rest = pages;
+    let mut count = 0u64;
+    while let Some((page, behind)) = rest.split_first() {
+        count = count.wrapping_add(count_in_page(page.as_slice()));
+        rest = behind;
+    }
+    count
+}
+
+/// How many records a page has, as a number of 64 bits. Takes no memory.
+pub(crate) fn count_in_page(page: &[u8]) -> u64
+    ensures { result ≡ length (page_records Two page.now) % 2 ^ 64 }
+{
+    match page.get(FRONT..) {
+        Some(records) => count_of(Records::of(records)),
+        None => 0,
+    }
+}
+
+/// How many records are still to be lent, as a number of 64 bits. Takes no memory.
+fn count_of(records: Records<'_>) -> u64
+    ensures { result ≡ length (records_ahead records.entry) % 2 ^ 64 }
 {
     let mut rest = records;
     let mut count = 0u64;

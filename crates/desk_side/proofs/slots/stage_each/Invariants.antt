@@ -1,9 +1,11 @@
-use Rattle.std.proofs.Common.{◌≡◌, length}
+use Rattle.std.proofs.Common.{◌≡◌, ◌<◌, ℕ, Some, length, slice_get}
+use Rattle.desk_ends.specs.Seats.{IsStaging, WayState, WaysMayStage}
 use Rattle.desk_side.proofs.slots.stage_each.Given as goal
 
--- what the ways have stays
+-- the ways so far stage
 abbrev pub invariant-loop-place : goal.invariant-loop-place
 invariant-loop-place l = record {
-  same : l.ways.items ≡ l.initial.ways.items;
+  same : WaysMayStage l.initial.ways.items l.ways.items;
   end : l.place-end ≡ length l.initial.ways.items;
+  stage : (d : ℕ) (w : WayState) → d < l.place → slice_get l.ways.items d ≡ Some w → IsStaging w;
 }

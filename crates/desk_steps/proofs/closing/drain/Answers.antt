@@ -1,12 +1,14 @@
 use Rattle.std.proofs.Common.{◌-◌, arith}
 use Rattle.desk_steps.specs.Agreeing.{DeskState}
-use Rattle.desk_steps.proofs.Draining.{drained-agree, drained-goes, drained-less, drained-shrinks, goes-further, goes-nowhere, same-agree, shrinks-more, shrinks-none}
+use Rattle.desk_steps.proofs.Draining.{drained-agree, drained-goes, drained-holds, drained-less, drained-shrinks, goes-further, goes-nowhere, same-agree, shrinks-more, shrinks-none}
+use Rattle.desk_steps.proofs.Holding.{holds-none, holds-twice}
 use Rattle.desk_steps.proofs.closing.drain.Goals as goal
 
 pub loop-init : goal.loop-init
 loop-init g c = record {
   agrees = λ inlets outlets h. h;
   goes_on = goes-nowhere c.args.recorded.now;
+  holds = holds-none c.args.side.now.ways;
   shrinks = shrinks-none c.args.side.now.seats;
   knows = λ a at. omega (arith, c.known-left.ensures a at);
 }
@@ -25,6 +27,7 @@ loop-preserved g c =
     record {
       agrees = λ inlets outlets h. drained-agree inlets outlets c.args.place s t did (c.loop.invariant.agrees inlets outlets h);
       goes_on = goes-further c.args.recorded.now c.loop.recorded c.drain_one.new.recorded c.loop.invariant.goes_on (drained-goes c.args.place s t did);
+      holds = holds-twice c.args.side.now.ways c.loop.side.ways c.drain_one.new.side.ways c.loop.invariant.holds (drained-holds c.args.place s t did);
       shrinks = shrinks-more c.args.side.now.seats c.loop.side.seats c.drain_one.new.side.seats c.loop.invariant.shrinks (drained-shrinks c.args.place s t did);
       knows = λ b at. omega (arith, drained-less c.args.place (c.known-left.result - c.loop.counter - 1) s t (omega (arith, c.requires.inside, c.loop.invariant.shrinks.count)) did (λ a here. omega (arith, c.loop.invariant.knows a here)) b at);
     }

@@ -2,12 +2,14 @@ use Rattle.std.proofs.Common.{◌≡◌, ◌<◌, ◌∙◌, Some, length, slice
 use Rattle.std.proofs.lemmas.Option.{slice_get-get_or, slice_get_within}
 use Rattle.desk_side.specs.desk_ends.Rings.{Done}
 use Rattle.desk_steps.proofs.Draining.{goes-further, goes-nowhere, one-drained, shrinks-more, shrinks-none, told-inside}
+use Rattle.desk_steps.proofs.Holding.{holds-none, holds-twice}
 use Rattle.desk_steps.proofs.closing.drain_all.Goals as goal
 
 pub loop-i-init : goal.loop-i-init
 loop-i-init g c = record {
   agrees = λ inlets outlets h. h;
   goes_on = goes-nowhere c.args.recorded.now;
+  holds = holds-none c.args.side.now.ways;
   shrinks = shrinks-none c.args.side.now.seats;
   none = λ i f k lt at is. absurd (omega arith);
 }
@@ -27,6 +29,7 @@ loop-i-preserved g c =
     record {
       agrees = λ inlets outlets h. c.drain_end.ensures.agrees inlets outlets (c.loop-i.invariant.agrees inlets outlets h);
       goes_on = goes-further c.args.recorded.now c.loop-i.recorded c.drain_end.new.recorded c.loop-i.invariant.goes_on c.drain_end.ensures.goes_on;
+      holds = holds-twice c.args.side.now.ways c.loop-i.side.ways c.drain_end.new.side.ways c.loop-i.invariant.holds c.drain_end.ensures.holds;
       shrinks = shrinks-more c.args.side.now.seats c.loop-i.side.seats c.drain_end.new.side.seats c.loop-i.invariant.shrinks c.drain_end.ensures.shrinks;
       none = one-drained c.loop-i.i c.args.finished.now.items one c.loop-i.side.seats c.drain_end.new.side.seats here c.drain_end.ensures.shrinks c.in_ok-drain_end.ensures.none c.loop-i.invariant.none;
     }
@@ -36,3 +39,9 @@ returns-in_err-drain_end-clause-agrees g c = λ inlets outlets h. c.drain_end.en
 
 pub returns-clause-none : goal.returns-clause-none
 returns-clause-none g c = λ i f k at is. c.loop-i.invariant.none i f k (omega (arith, slice_get_within c.args.finished.now.items i f at)) at is
+
+pub returns-in_err-drain_end-clause-goes_on : goal.returns-in_err-drain_end-clause-goes_on
+returns-in_err-drain_end-clause-goes_on g c = goes-further c.args.recorded.now c.loop-i.recorded c.drain_end.new.recorded c.loop-i.invariant.goes_on c.drain_end.ensures.goes_on
+
+pub returns-in_err-drain_end-clause-holds : goal.returns-in_err-drain_end-clause-holds
+returns-in_err-drain_end-clause-holds g c = holds-twice c.args.side.now.ways c.loop-i.side.ways c.drain_end.new.side.ways c.loop-i.invariant.holds c.drain_end.ensures.holds

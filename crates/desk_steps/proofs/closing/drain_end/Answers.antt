@@ -2,6 +2,7 @@ use Rattle.std.proofs.Common.{◌≡◌, ◌∙◌, ℕ, sym, subst}
 use Rattle.std.proofs.lemmas.Result.{on_ok_weaker}
 use Rattle.desk_steps.specs.Settling.{KnowsNone}
 use Rattle.desk_steps.proofs.Draining.{goes-nowhere, shrinks-none}
+use Rattle.desk_steps.proofs.Holding.{holds-none}
 use Rattle.desk_steps.proofs.closing.drain_end.Goals as goal
 
 pub drain-requires : goal.drain-requires
@@ -15,6 +16,9 @@ returns-in-Some-clause-none g c =
 
 pub returns-in-None-clause-goes_on : goal.returns-in-None-clause-goes_on
 returns-in-None-clause-goes_on g c = goes-nowhere c.args.recorded.now
+
+pub returns-in-None-clause-holds : goal.returns-in-None-clause-holds
+returns-in-None-clause-holds g c = holds-none c.args.side.now.ways
 
 pub returns-in-None-clause-shrinks : goal.returns-in-None-clause-shrinks
 returns-in-None-clause-shrinks g c = shrinks-none c.args.side.now.seats

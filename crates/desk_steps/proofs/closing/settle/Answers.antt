@@ -6,6 +6,7 @@ use Rattle.desk_steps.specs.Agreeing.{DeskState}
 use Rattle.desk_steps.specs.Settling.{AreBegun, AreSettled, AreTold}
 use Rattle.desk_steps.proofs.Comparing.{seat-names, seats-twice, way-names}
 use Rattle.desk_steps.proofs.Draining.{all-settled, compares-agree}
+use Rattle.desk_steps.proofs.Holding.{all-released, holds-twice, looks-hold}
 use Rattle.desk_steps.proofs.closing.settle.Goals as goal
 
 pub compare_all-requires : goal.compare_all-requires
@@ -28,6 +29,17 @@ returns-clause-agrees g c =
     let ways = ways-twice c.args.side.now.ways c.compare_all.new.side.ways c.compare_all-2.new.side.ways c.compare_all.ensures.ways c.compare_all-2.ensures.ways in
     c.drain_all.ensures.agrees g.K.DeskName.inlets g.K.DeskName.outlets
     (compares-agree g.K.DeskName.inlets g.K.DeskName.outlets (record { recorded = c.args.recorded.now; side = c.args.side.now }) (record { recorded = c.args.recorded.now; side = c.compare_all-2.new.side }) c.requires.agrees refl seats ways)
+
+pub returns-clause-holds : goal.returns-clause-holds
+returns-clause-holds g c =
+    let ways = ways-twice c.args.side.now.ways c.compare_all.new.side.ways c.compare_all-2.new.side.ways c.compare_all.ensures.ways c.compare_all-2.ensures.ways in
+    holds-twice c.args.side.now.ways c.compare_all-2.new.side.ways c.drain_all.new.side.ways (looks-hold c.args.side.now.ways c.compare_all-2.new.side.ways ways) c.drain_all.ensures.holds
+
+pub returns-clause-released : goal.returns-clause-released
+returns-clause-released g c =
+    let begun = subst (λ (z : List Done). AreBegun z c.compare_all.new.side.seats) (sym c.compare_all.ensures.same) c.compare_all.ensures.begun in
+    let told = subst (λ (z : List Done). AreTold z c.compare_all-2.new.side.seats c.compare_all-2.new.side.ways) c.compare_all.ensures.same (c.compare_all-2.ensures.told begun) in
+    all-released c.args.finished.now.items c.compare_all-2.new.side.seats c.compare_all-2.new.side.ways c.drain_all.new.side.ways told c.drain_all.ensures.holds
 
 pub returns-clause-settled : goal.returns-clause-settled
 returns-clause-settled g c =

@@ -1,6 +1,5 @@
 use Rattle.std.proofs.Common.{rules}
 use Rattle.gateway_command.specs.Command.{asking_of}
-use Rattle.gateway_command.specs.Seen.{asked_seen}
 use Rattle.gateway_command.proofs.command.asked_by.Goals as goal
 
 pub returns-in-audit : goal.returns-in-audit
@@ -24,7 +23,7 @@ unfolding asking_of
 returns-in-end c = search rules
 
 pub returns-in-demo : goal.returns-in-demo
-unfolding asking_of asked_seen
+unfolding asking_of
 returns-in-demo c = search rules
 
 pub returns-in-export : goal.returns-in-export

@@ -1,5 +1,5 @@
 -- Each subcommand stands behind those before it.
-use Rattle.std.proofs.Common.{rules, ap, ap₂, ◌≡◌, ◌∙◌}
+use Rattle.std.proofs.Common.{rules, ap, ◌≡◌, ◌∙◌}
 use Rattle.std.proofs.lemmas.Result.{IfOk-weaker}
 use Rattle.clap.specs.Words.{App, app_of}
 use Rattle.gateway_command.specs.Command.{alone, audit, demo, ends, exports, journal, runs, serves, with_command, world}
@@ -18,7 +18,7 @@ returns c =
     let with_end_is : app_of c.in_ok-with_end.with_end ≡ to_end =
     c.in_ok-with_end.ensures ∙ ap (λ x. with_command x ends) with_serve_is in
     let with_demo_is : app_of c.in_ok-with_demo.with_demo ≡ with_command to_end demo =
-    c.in_ok-with_demo.ensures ∙ ap₂ with_command with_end_is c.demo.ensures.app in
+    c.in_ok-with_demo.ensures ∙ ap (λ x. with_command x demo) with_end_is in
     let with_audit_is : app_of c.in_ok-with_audit.with_audit ≡ with_command (with_command to_end demo) audit =
     c.in_ok-with_audit.ensures ∙ ap (λ x. with_command x audit) with_demo_is in
     let with_export_is : app_of c.in_ok-with_export.with_export ≡ with_command (with_command (with_command to_end demo) audit) exports =

@@ -26,6 +26,6 @@ returns-clause-told g c = elim c.match-self.branch [
       let named = rw w.in-Took.is at c.self.invariant in
       rw (w.seats-is, w.ways-is, ← c.self.view_is, w.in-Took.is)
       (took-told g.K.DeskName.inlets g.K.DeskName.outlets c.self.inside.at _ w.in-Took.took c.args.ways.now.items w.look_beside.new.ways.items c.args.seats.now.items
-      c.requires.ways named w.look_beside.ensures.looked w.look_beside.ensures.prefix)
+      c.requires.ways named w.look_beside.ensures.looked w.look_beside.ensures.prefix w.look_beside.ensures.released)
       )
 ]

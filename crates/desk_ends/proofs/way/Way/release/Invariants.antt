@@ -4,9 +4,9 @@ use Rattle.rtrb.specs.Ring.{known_free, sent}
 use Rattle.desk_ends.specs.Rings.{producer_ring}
 use Rattle.desk_ends.proofs.way.Way.release.Given as goal
 
--- what went in stays, and for how much more there is room
-abbrev pub invariant-loop : goal.invariant-loop
-invariant-loop l = record {
+-- what was sent stays, and for how much more there is room
+abbrev pub invariant-loop-told : goal.invariant-loop-told
+invariant-loop-told l = record {
   to : l.self-inside.to ≡ l.initial.self-inside.to;
   ring : producer_ring l.self-inside.producer ≡ producer_ring l.initial.self-inside.producer;
   sent : sent l.self-inside.producer ++ l.self-inside.staged.items
@@ -14,4 +14,8 @@ invariant-loop l = record {
   free : known_free l.self-inside.producer - deque_len l.self-inside.staged
       ≡ known_free l.initial.self-inside.producer - deque_len l.initial.self-inside.staged;
   cut : l.self-inside.cut ≡ l.initial.self-inside.cut;
+  stages : l.self-inside.stages ≡ l.initial.self-inside.stages;
 }
+
+abbrev pub decreases-loop-told : goal.decreases-loop-told
+decreases-loop-told l = deque_len l.self-inside.staged

@@ -18,7 +18,7 @@ invariant_of-self-in-Ok g c =
 
 pub returns-in-Ok-clause-ok : goal.returns-in-Ok-clause-ok
 returns-in-Ok-clause-ok g c =
-    step-is c.args.event.now c.of.result (batch_seen c.in_ok-batch.batch) c.self.inside.settings c.self.inside.history _ c.args.self.now c.self.view_is c.in-Ok.ensures.events c.in-Ok.ensures.batches c.of.ensures
+    step-is c.args.event.now c.of.result (batch_seen c.in_ok-batch.batch) c.self.inside.settings c.self.inside.history _ c.args.self.now c.self.view_is c.in-Ok.ensures.events c.in-Ok.ensures.batches c.in-Ok.ensures.pages c.of.ensures
     (c.in_ok-batch.ensures.holds c.self.inside.settings (turns c.self.inside.history) c.self.invariant)
 
 pub invariant_of-self-in-Err-1 : goal.invariant_of-self-in-Err-1

@@ -1,0 +1,8 @@
+use Rattle.std.proofs.Common.{◌≡◌, ◌++◌, take}
+use Rattle.std.specs.List.{flat_map}
+use Rattle.day_export.specs.Forms.{member_text}
+use Rattle.day_export.proofs.writing.push_members.Given as goal
+
+-- those of the cells so far
+abbrev pub invariant-loop-cell : goal.invariant-loop-cell
+invariant-loop-cell l = l.text.items ≡ l.initial.text.items ++ flat_map member_text (take l.cell-index l.cells)

@@ -1,0 +1,48 @@
+-- What a desk with a journal keeps: nobody is told more than the journal's file has, durably. (Own.)
+use Rattle.std.specs.Prelude.{◌≡◌, ℕ, true, Option, Some, None, slice_get, List}
+use mathlib.Core.List.{IsPrefix}
+use Rattle.gate_events.specs.Sources.{lists_to}
+use Rattle.journal_pages.specs.declared.version.Version.TheVariants.{Two}
+use Rattle.desk_steps.specs.gate_journal.Cut.{IsMoreOf}
+use Rattle.desk_steps.specs.gate_journal.Day.{day_records}
+use Rattle.desk_steps.specs.gate_journal.Kept.{kept_in}
+use Rattle.gate_law.specs.Events.{LinkOut}
+use Rattle.gate_events.specs.declared.source.Recipient.{Recipient}
+use Rattle.desk_ends.specs.Rings.{Done, took_at}
+use Rattle.desk_ends.specs.Seats.{WayState}
+use Rattle.desk_steps.specs.Agreeing.{DeskState}
+use Rattle.host_log.specs.declared.host_file.HostFile.{HostFile}
+use Rattle.host_log.specs.Seen.{host_may_leave, host_seen}
+use Rattle.turn_log.specs.Kept.{HasDay, LeavesAll, TurnLogState}
+
+-- What lies in the ring of each way, or was taken out of it, is a beginning of what a history tells its recipient; the
+-- rest of what was sent waits beside the ring.
+abbrev pub AreToldFrom : List (List ℕ) → List WayState → Type 0
+AreToldFrom history ways = (d : ℕ) (w : WayState) → slice_get ways d ≡ Some w
+    → (w.stages ≡ true) × IsPrefix w.released (lists_to w.name.to (kept_in history).batches)
+    × IsPrefix w.released w.sent
+
+-- The log has a history, durably: the desk's own, or a beginning of it. Nobody is told more than that has.
+pub record IsWrittenAhead (log : TurnLogState HostFile) (s : DeskState) : Type 0 where
+  pub history : List (List ℕ)
+  pub has : HasDay host_seen host_may_leave history log
+  pub more : IsMoreOf history s.recorded.kept.pages
+  pub told : AreToldFrom history s.side.ways
+
+-- Each crash leaves a file in front of which the pages of a day stand; and what finished outlets took is a beginning of
+-- what that day tells them. So nothing that anybody was told is forgotten.
+pub record EachCrashTells (finished : List Done) (log : TurnLogState HostFile) : Type 0 where
+  pub history : List (List ℕ)
+  pub left : LeavesAll host_seen host_may_leave history log.file
+  pub told : (i d : ℕ) (to : Recipient) (lists : List (List LinkOut)) → slice_get finished i ≡ Some (took_at d to lists)
+      → IsPrefix lists (lists_to to (kept_in history).batches)
+
+-- where there is a journal
+abbrev pub ToldIsKept : List Done → Option (TurnLogState HostFile) → Type 0
+ToldIsKept finished None = Unit {0}
+ToldIsKept finished (Some log) = EachCrashTells finished log
+
+-- of a desk that has a journal
+abbrev pub KeepsAhead : Option (TurnLogState HostFile) → DeskState → Type 0
+KeepsAhead None s = Unit {0}
+KeepsAhead (Some log) s = IsWrittenAhead log s
