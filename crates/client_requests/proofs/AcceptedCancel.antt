@@ -29,24 +29,100 @@ entry_of client r o = record { client = client; message = cancel_request_fields 
 -- what the order keeps of it is what the law keeps
 kept-as : (client owner order_id : ℕ) (order : List ℕ) (r : CancelRequest) (c : Cancelling) (tokens : List (List ℕ))
     → owner ≡ client → order ≡ decimal order_id → c.message ≡ r → c.tokens.items ≡ tokens
-    → ◌≡◌ {A = record_of.Cancelling} (record { request = record { client = client; message = cancel_request_fields r; order = order; token = None }; tokens = tokens }) (cancel_seen owner order_id c)
+    → ◌≡◌ {A = record_of.Cancelling} (record {
+      request =
+          record { client = client; message = cancel_request_fields r; order = order; token = None };
+      tokens = tokens;
+    })
+    (cancel_seen owner order_id c)
 kept-as client owner order_id order r c tokens is_owner of_order is_message is_tokens =
-    let by_owner : ◌≡◌ {A = record_of.Cancelling} (record { request = record { client = client; message = cancel_request_fields r; order = order; token = None }; tokens = tokens }) (record { request = record { client = owner; message = cancel_request_fields r; order = order; token = None }; tokens = tokens }) =
-    ap (λ (n : ℕ). record { request = record { client = n; message = cancel_request_fields r; order = order; token = None }; tokens = tokens }) (sym is_owner) in
-    let by_order : ◌≡◌ {A = record_of.Cancelling} (record { request = record { client = owner; message = cancel_request_fields r; order = order; token = None }; tokens = tokens }) (record { request = record { client = owner; message = cancel_request_fields r; order = decimal order_id; token = None }; tokens = tokens }) =
-    ap (λ (k : List ℕ). record { request = record { client = owner; message = cancel_request_fields r; order = k; token = None }; tokens = tokens }) of_order in
-    let by_message : ◌≡◌ {A = record_of.Cancelling} (record { request = record { client = owner; message = cancel_request_fields r; order = decimal order_id; token = None }; tokens = tokens }) (record { request = record { client = owner; message = cancel_request_fields c.message; order = decimal order_id; token = None }; tokens = tokens }) =
-    ap (λ (x : CancelRequest). record { request = record { client = owner; message = cancel_request_fields x; order = decimal order_id; token = None }; tokens = tokens }) (sym is_message) in
-    let by_tokens : ◌≡◌ {A = record_of.Cancelling} (record { request = record { client = owner; message = cancel_request_fields c.message; order = decimal order_id; token = None }; tokens = tokens }) (cancel_seen owner order_id c) =
-    ap (λ (ts : List (List ℕ)). record { request = record { client = owner; message = cancel_request_fields c.message; order = decimal order_id; token = None }; tokens = ts }) (sym is_tokens) in
+    let by_owner : ◌≡◌ {A = record_of.Cancelling}
+    (record {
+      request = record { client = client; message = cancel_request_fields r; order = order; token = None };
+      tokens = tokens;
+    }) (record {
+      request = record
+          { client = owner; message = cancel_request_fields r; order = order; token = None };
+      tokens = tokens;
+    }) =
+    ap (λ (n : ℕ). record {
+      request = record {
+        client = n;
+        message = cancel_request_fields r;
+        order = order;
+        token =
+            None;
+      };
+      tokens = tokens;
+    }) (sym is_owner) in
+    let by_order : ◌≡◌ {A = record_of.Cancelling}
+    (record {
+      request = record { client = owner; message = cancel_request_fields r; order = order; token = None };
+      tokens = tokens;
+    }) (record {
+      request = record
+          { client = owner; message = cancel_request_fields r; order = decimal order_id; token = None };
+      tokens =
+          tokens;
+    }) =
+    ap (λ (k : List ℕ). record {
+      request = record
+          { client = owner; message = cancel_request_fields r; order = k; token = None };
+      tokens = tokens;
+    }) of_order in
+    let by_message : ◌≡◌ {A = record_of.Cancelling}
+    (record {
+      request = record {
+        client = owner;
+        message = cancel_request_fields r;
+        order =
+            decimal order_id;
+        token = None;
+      };
+      tokens = tokens;
+    })
+    (record {
+      request = record {
+        client = owner;
+        message = cancel_request_fields c.message;
+        order =
+            decimal order_id;
+        token = None;
+      };
+      tokens = tokens;
+    }) =
+    ap (λ (x : CancelRequest). record {
+      request =
+          record { client = owner; message = cancel_request_fields x; order = decimal order_id; token = None };
+      tokens =
+          tokens;
+    }) (sym is_message) in
+    let by_tokens : ◌≡◌ {A = record_of.Cancelling}
+    (record {
+      request = record {
+        client = owner;
+        message = cancel_request_fields c.message;
+        order =
+            decimal order_id;
+        token = None;
+      };
+      tokens = tokens;
+    }) (cancel_seen owner order_id c) =
+    ap (λ (ts : List (List ℕ)). record {
+      request =
+          record { client = owner; message = cancel_request_fields c.message; order = decimal order_id; token = None };
+      tokens = ts;
+    }) (sym is_tokens) in
     by_owner ∙ by_order ∙ by_message ∙ by_tokens
 
 -- each Cancel Order is asked of the order
-cancels-of : (order : List ℕ) (order_id : ℕ) (m : Message) (tokens : List (List ℕ)) → order ≡ decimal order_id → AreOf order_id (map (λ token. cancel_asked_with order token m) tokens)
+cancels-of : (order : List ℕ) (order_id : ℕ) (m : Message) (tokens : List (List ℕ)) → order ≡ decimal order_id
+    → AreOf order_id (map (λ token. cancel_asked_with order token m) tokens)
 cancels-of order order_id m [] is = tt
 cancels-of order order_id m (token ∷ tokens) is = (is, cancels-of order order_id m tokens is)
 
-pub cancelling-in : (s : TableState) (issued : ℕ) (sender : Sender) (r : CancelRequest) (o : OrderRecord) (order_id : ℕ) (c : Cancelling) (body : AppBody) (asks : List Inbound)
+pub cancelling-in : (s : TableState) (issued : ℕ) (sender : Sender) (r : CancelRequest) (o : OrderRecord) (order_id : ℕ)
+    (c : Cancelling) (body : AppBody) (asks : List Inbound)
     → IsAccepted issued sender (cancel_request_fields r) o s → o.new.order ≡ decimal order_id
     → c.message ≡ r → c.tokens.items ≡ live_token o ∷ replacements o.replaces
     → body_fields body ∷ [] ≡ accepted_request (issued + 1) (entry_of sender.client r o) (Some (shown_as o))
@@ -55,7 +131,8 @@ pub cancelling-in : (s : TableState) (issued : ℕ) (sender : Sender) (r : Cance
 cancelling-in s issued sender r o order_id c body asks is of_order is_message is_tokens is_body says few =
     let m : Message = cancel_request_fields r in
     let client = sender.client in
-    let kept = kept-as client o.new.client order_id o.new.order r c (live_token o ∷ replacements o.replaces) (owner s client r.orig_cl_ord_id o is.named) of_order is_message is_tokens in
+    let kept = kept-as client o.new.client order_id o.new.order r c (live_token o ∷ replacements o.replaces)
+    (owner s client r.orig_cl_ord_id o is.named) of_order is_message is_tokens in
     record {
       order = o;
       named = is.named;
@@ -63,9 +140,25 @@ cancelling-in s issued sender r o order_id c body asks is of_order is_message is
       asked = cancels_asked o m;
       of_asked = cancels-of o.new.order order_id m (live_token o ∷ replacements o.replaces) of_order;
       gives = accepted-on s client m (port_seen sender.port) o refl is.named is.verdict
-          ∙ ap (λ (x : record_of.Cancelling). tells (record (with_used client m s) { orders = put (at o o.replaces (Some x)) s.orders; exec_ids = s.exec_ids + 1 }) client (accepted_request (s.exec_ids + 1) (entry_of client r o) (Some (shown_as o))) (cancels_asked o m)) kept
-          ∙ ap (λ (n : ℕ). tells (record (with_used client m s) { orders = put (at o o.replaces (Some (cancel_seen o.new.client order_id c))) s.orders; exec_ids = s.exec_ids + 1 }) client (accepted_request (n + 1) (entry_of client r o) (Some (shown_as o))) (cancels_asked o m)) is.reports
-          ∙ ap (λ (bs : List Message). tells (record (with_used client m s) { orders = put (at o o.replaces (Some (cancel_seen o.new.client order_id c))) s.orders; exec_ids = s.exec_ids + 1 }) client bs (cancels_asked o m)) (sym is_body);
+          ∙ ap (λ (x : record_of.Cancelling). tells
+          (record (with_used client m s) {
+            orders = put (at o o.replaces (Some x)) s.orders;
+            exec_ids =
+                s.exec_ids + 1;
+          }) client (accepted_request (s.exec_ids + 1) (entry_of client r o) (Some (shown_as o)))
+          (cancels_asked o m)) kept
+          ∙ ap (λ (n : ℕ). tells (record (with_used client m s) {
+            orders = put (at o o.replaces (Some (cancel_seen o.new.client order_id c))) s.orders;
+            exec_ids =
+                s.exec_ids + 1;
+          }) client (accepted_request (n + 1) (entry_of client r o) (Some (shown_as o)))
+          (cancels_asked o m)) is.reports
+          ∙ ap (λ (bs : List Message). tells (record
+          (with_used client m s) {
+            orders = put (at o o.replaces (Some (cancel_seen o.new.client order_id c)))
+                s.orders;
+            exec_ids = s.exec_ids + 1;
+          }) client bs (cancels_asked o m)) (sym is_body);
       says = says;
       few = few;
     }

@@ -10,14 +10,17 @@ use Rattle.orders.specs.Seen.{cancel_seen, replace_seen}
 
 module _ (client order_id : ℕ) where
   abbrev requests : List Replacing → Option Cancelling → List Request
-  requests rs c = map request_of (map (replace_seen client order_id) rs ++ cancel_entry (option_map (cancel_seen client order_id) c))
+  requests rs c = map request_of (map (replace_seen client order_id) rs
+      ++ cancel_entry (option_map (cancel_seen client order_id) c))
 
-  pub any-cancel : (rs : List Replacing) (c : Option Cancelling) → list_any (λ (q : Request). not q.is_replace) (requests rs c) ≡ is_some c
+  pub any-cancel : (rs : List Replacing) (c : Option Cancelling)
+      → list_any (λ (q : Request). not q.is_replace) (requests rs c) ≡ is_some c
   any-cancel [] None = refl
   any-cancel [] (Some c) = refl
   any-cancel (r ∷ rs) c = any-cancel rs c
 
-  pub count-replaces : (rs : List Replacing) (c : Option Cancelling) → length (filter (λ (q : Request). q.is_replace) (requests rs c)) ≡ length rs
+  pub count-replaces : (rs : List Replacing) (c : Option Cancelling)
+      → length (filter (λ (q : Request). q.is_replace) (requests rs c)) ≡ length rs
   count-replaces [] None = refl
   count-replaces [] (Some c) = refl
   count-replaces (r ∷ rs) c = ap suc (count-replaces rs c)

@@ -1,5 +1,6 @@
 -- What goes out of a request says what it asks.
-use Rattle.std.proofs.Common.{◌≡◌, ◌-◌, ◌≤◌, ℕ, List, [], ◌∷◌, ◌++◌, codes, drop, get_or, length, map, refl, sym, take, ap, ◌∙◌, subst, Some}
+use Rattle.std.proofs.Common.{◌≡◌, ◌-◌, ◌≤◌, ℕ, List, [], ◌∷◌, ◌++◌, codes, drop, get_or, length, map, refl, sym, take}
+use Rattle.std.proofs.Common.{ap, ◌∙◌, subst, Some}
 use Rattle.std.specs.Prelude.{Option}
 use Rattle.std.proofs.lemmas.List.{append_assoc}
 use Rattle.std.specs.Str.Parse.{digits_value}
@@ -28,7 +29,8 @@ Leads order_of token o = order_of token ≡ Some (digits_value 10 o.new.order)
 -- ---- cancels
 
 -- one more
-pub cancel-pushed : (ts : List (List ℕ)) (xs : List Inbound) (t : List ℕ) (x : Inbound) → SayCancels ts xs → SaysTheCancel t x → SayCancels (ts ++ t ∷ []) (xs ++ x ∷ [])
+pub cancel-pushed : (ts : List (List ℕ)) (xs : List Inbound) (t : List ℕ) (x : Inbound) → SayCancels ts xs
+    → SaysTheCancel t x → SayCancels (ts ++ t ∷ []) (xs ++ x ∷ [])
 cancel-pushed [] [] t x say says = (says, tt)
 cancel-pushed [] (y ∷ ys) t x say says = absurd say
 cancel-pushed (s ∷ ts) [] t x say says = absurd say
@@ -37,14 +39,19 @@ cancel-pushed (s ∷ ts) (y ∷ ys) t x say says = (say.0, cancel-pushed ts ys t
 -- of the first of these replaces, and of those behind it
 pub cancels-pushed : (replaces : List Replacing) (first : Replacing) (old mid new : List Inbound) (x : Inbound)
     → first ≡ get_or replaces 0 first → 1 ≤ length replaces → mid ≡ old ++ x ∷ [] → SaysTheCancel first.token x
-    → ((ts : List (List ℕ)) → SayCancels ts mid → SayCancels (ts ++ map replacing_token (take (length replaces - 1) (drop 1 replaces))) new)
+    → ((ts : List (List ℕ)) → SayCancels ts mid
+    → SayCancels (ts ++ map replacing_token (take (length replaces - 1) (drop 1 replaces))) new)
     → (ts : List (List ℕ)) → SayCancels ts old → SayCancels (ts ++ map replacing_token replaces) new
 cancels-pushed replaces first old mid new x is some pushed says more ts say =
-    subst (λ (rs : List Replacing). SayCancels (ts ++ map replacing_token rs) new) (sym (split-of replaces first is some).all)
-    (subst (λ (tokens : List (List ℕ)). SayCancels tokens new) (append_assoc ts (first.token ∷ []) (map replacing_token (take (length replaces - 1) (drop 1 replaces))))
-    (more (ts ++ first.token ∷ []) (subst (SayCancels (ts ++ first.token ∷ [])) (sym pushed) (cancel-pushed ts old first.token x say says))))
+    subst (λ (rs : List Replacing). SayCancels (ts ++ map replacing_token rs) new)
+    (sym (split-of replaces first is some).all)
+    (subst (λ (tokens : List (List ℕ)). SayCancels tokens new)
+    (append_assoc ts (first.token ∷ []) (map replacing_token (take (length replaces - 1) (drop 1 replaces))))
+    (more (ts ++ first.token ∷ []) (subst (SayCancels (ts ++ first.token ∷ [])) (sym pushed)
+    (cancel-pushed ts old first.token x say says))))
 
-pub no-cancels : (replaces : List Replacing) (ts : List (List ℕ)) (xs : List Inbound) → replaces ≡ [] → SayCancels ts xs → SayCancels (ts ++ map replacing_token replaces) xs
+pub no-cancels : (replaces : List Replacing) (ts : List (List ℕ)) (xs : List Inbound) → replaces ≡ [] → SayCancels ts xs
+    → SayCancels (ts ++ map replacing_token replaces) xs
 no-cancels replaces ts xs none say =
     subst (λ (rs : List Replacing). SayCancels (ts ++ map replacing_token rs) xs) (sym none)
     (subst (λ (tokens : List (List ℕ)). SayCancels tokens xs) (sym (append-nothing ts)) say)
@@ -54,34 +61,46 @@ no-cancels replaces ts xs none say =
     append-nothing (k ∷ ks) = ap (λ (js : List (List ℕ)). k ∷ js) (append-nothing ks)
 
 -- the tokens of pending replaces, as the order has them and as its record has them
-pub tokens-seen : (client order_id : ℕ) (rs : List Replacing) → map replacing_token rs ≡ replacements (map (replace_seen client order_id) rs)
+pub tokens-seen : (client order_id : ℕ) (rs : List Replacing)
+    → map replacing_token rs ≡ replacements (map (replace_seen client order_id) rs)
 tokens-seen client order_id [] = refl
 tokens-seen client order_id (r ∷ rs) = (λ j. r.text_set j ∷ tokens-seen client order_id rs j)
 
 -- what they say is what is asked
 pub each-said : (order : List ℕ) (ts : List (List ℕ)) (xs : List Inbound) (m : Message) (standing : Standing) (order_of : List ℕ → Option ℕ) → SayCancels ts xs → text 35 m ≡ codes "F"
-    → Each (Finds order_of) (map (λ token. cancel_asked_with order token m) ts) → EachWith (Says standing order_of) (map (λ token. cancel_asked_with order token m) ts) (map inbound_bytes xs)
+    → Each (Finds order_of) (map (λ token. cancel_asked_with order token m) ts)
+    → EachWith (Says standing order_of) (map (λ token. cancel_asked_with order token m) ts) (map inbound_bytes xs)
 each-said order [] [] m standing order_of say kind finds = tt
 each-said order [] (x ∷ xs) m standing order_of say kind finds = absurd say
 each-said order (t ∷ ts) [] m standing order_of say kind finds = absurd say
-each-said order (t ∷ ts) (x ∷ xs) m standing order_of say kind finds = (say.0 m kind order standing order_of finds.0, each-said order ts xs m standing order_of say.1 kind finds.1)
+each-said order (t ∷ ts) (x ∷ xs) m standing order_of say kind finds =
+    (say.0 m kind order standing order_of finds.0, each-said order ts xs m standing order_of say.1 kind finds.1)
 
-pub cancels-said : (o : OrderRecord) (tokens : List (List ℕ)) (xs : List Inbound) (m : Message) (standing : Standing) (order_of : List ℕ → Option ℕ) → tokens ≡ live_token o ∷ replacements o.replaces
+pub cancels-said : (o : OrderRecord) (tokens : List (List ℕ)) (xs : List Inbound) (m : Message) (standing : Standing)
+    (order_of : List ℕ → Option ℕ) → tokens ≡ live_token o ∷ replacements o.replaces
     → SayCancels tokens xs → text 35 m ≡ codes "F" → Each (Finds order_of) (cancels_asked o m) → EachWith (Says standing order_of) (cancels_asked o m) (map inbound_bytes xs)
 cancels-said o tokens xs m standing order_of are say kind finds =
-    each-said o.new.order (live_token o ∷ replacements o.replaces) xs m standing order_of (subst (λ (ts : List (List ℕ)). SayCancels ts xs) are say) kind finds
+    each-said o.new.order (live_token o ∷ replacements o.replaces) xs m standing order_of
+    (subst (λ (ts : List (List ℕ)). SayCancels ts xs) are say) kind finds
 
 -- the token that an order goes by once its pending replaces are done can be sent
-pub printable-last : (client order_id : ℕ) (token : List ℕ) → ArePrintable token → (rs : List Replacing) → ArePrintable (last_token token (replacements (map (replace_seen client order_id) rs)))
+pub printable-last : (client order_id : ℕ) (token : List ℕ) → ArePrintable token → (rs : List Replacing)
+    → ArePrintable (last_token token (replacements (map (replace_seen client order_id) rs)))
 printable-last client order_id token printable [] = printable
 printable-last client order_id token printable (r ∷ rs) =
-    printable-last client order_id (token_of (replace_seen client order_id r)) (printable-token (token_of (replace_seen client order_id r)) r.token_number refl) rs
+    printable-last client order_id (token_of (replace_seen client order_id r))
+    (printable-token (token_of (replace_seen client order_id r)) r.token_number refl) rs
 
 -- a replace, from the token that the order goes by once its pending replaces are done
-pub replace-said : (o : OrderRecord) (live token : List ℕ) (m : Message) (standing : Standing) (order_of : List ℕ → Option ℕ) (x : Replace) (items : List Inbound)
+pub replace-said : (o : OrderRecord) (live token : List ℕ) (m : Message) (standing : Standing)
+    (order_of : List ℕ → Option ℕ) (x : Replace) (items : List Inbound)
     → live ≡ last_token (live_token o) (replacements o.replaces) → items ≡ inbound.Replace x ∷ []
     → Each (Finds order_of) (replaces_asked o token m)
     → (Leads order_of live o → Says standing order_of (replace_asked_with o.new.order live token m) (replace_bytes x))
     → EachWith (Says standing order_of) (replaces_asked o token m) (map inbound_bytes items)
 replace-said o live token m standing order_of x items is_live is finds says =
-    rw is (subst (λ (t : List ℕ). Says standing order_of (replace_asked_with o.new.order t token m) (replace_bytes x)) is_live (says (ap order_of is_live ∙ finds.0)), tt)
+    rw is (
+      subst (λ (t : List ℕ). Says standing order_of (replace_asked_with o.new.order t token m) (replace_bytes x))
+          is_live (says (ap order_of is_live ∙ finds.0)),
+      tt,
+    )

@@ -1,5 +1,6 @@
 -- What a batch of the core writes to a port's link are packets.
-use Rattle.std.proofs.Common.{◌≡◌, ℕ, Bool, true, false, List, [], ◌∷◌, ◌++◌, map, Option, Some, None, refl, sym, ap, subst}
+use Rattle.std.proofs.Common.{◌≡◌, ℕ, Bool, true, false, List, [], ◌∷◌, ◌++◌, map, Option, Some, None, refl, sym, ap}
+use Rattle.std.proofs.Common.{subst}
 use Rattle.soup_packets.specs.declared.packet.Packet.{Packet}
 use Rattle.gate_law.specs.soup_session.declared.port_turn.PortOut.{PortOut}
 use Rattle.gate_law.specs.soup_session.declared.port_turn.PortOut.TheVariants as packets
@@ -32,7 +33,8 @@ due-packets s o v = by_move o.port_link refl
     by_move (Refused link) is = rw is (tt, on-some _ _)
 
 -- of a history that keeps the promise
-pub batch-packets : (s : Settings) (e : Event) (b : Batch) (h : History) → Holds s (record { event = e; batch = b } ∷ h) → ArePackets b.port_out
+pub batch-packets : (s : Settings) (e : Event) (b : Batch) (h : History) → Holds s (record { event = e; batch = b } ∷ h)
+    → ArePackets b.port_out
 batch-packets s e b h holds = by_day (is_within_day h) holds.run.0
   where
     by_day : (day : Bool) → OfTurn day (Gives s e b (lists s h)) b → ArePackets b.port_out

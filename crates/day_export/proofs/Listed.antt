@@ -10,4 +10,5 @@ pub said-next : (fields : List Field) (i : ℕ) (f : Field) → slice_get fields
     → fields_said (take i fields) ++ said_of f ≡ fields_said (take (i + 1) fields)
 said-next fields i f e =
     flat_map_more said_of [] (take i fields) f
-    ∙ ap fields_said (sym (take_more fields i f (slice_get_within fields i f e) ∙ ap (λ (g : Field). take i fields ++ g ∷ []) (get_or_from_slice_get fields i f f e)))
+    ∙ ap fields_said (sym (take_more fields i f (slice_get_within fields i f e)
+    ∙ ap (λ (g : Field). take i fields ++ g ∷ []) (get_or_from_slice_get fields i f f e)))

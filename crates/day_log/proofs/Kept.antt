@@ -1,5 +1,6 @@
 -- What a crash leaves of a log.
-use Rattle.std.proofs.Common.{◌≡◌, ℕ, List, [], ◌∷◌, ◌++◌, Result, Ok, Err, OnOk, refl, sym, ap, ◌∙◌, subst, append-nil, append_assoc}
+use Rattle.std.proofs.Common.{◌≡◌, ℕ, List, [], ◌∷◌, ◌++◌, Result, Ok, Err, OnOk, refl, sym, ap, ◌∙◌, subst, append-nil}
+use Rattle.std.proofs.Common.{append_assoc}
 use Rattle.journal_pages.specs.declared.version.Version.TheVariants.{Two}
 use Rattle.journal_file.specs.File.{file_of, sized_page, sized_pages}
 use Rattle.journal_file.proofs.Files.{sized-more}
@@ -13,11 +14,14 @@ pub same-follows : (outcomes : List ℕ → Type 0) → Follows StandsBefore out
 same-follows outcomes c left = (c, left, nothing-behind c)
 
 -- fewer outcomes follow too
-pub fewer-follow : (old mid new : List ℕ → Type 0) → Follows StandsBefore old mid → ((c : List ℕ) → new c → mid c) → Follows StandsBefore old new
+pub fewer-follow : (old mid new : List ℕ → Type 0) → Follows StandsBefore old mid → ((c : List ℕ) → new c → mid c)
+    → Follows StandsBefore old new
 fewer-follow old mid new follows fewer c left = follows c (fewer c left)
 
-pub same-file : {F : Type 0} (may_leave : F → List ℕ → Type 0) (a b : F) → a ≡ b → Follows StandsBefore (may_leave b) (may_leave a)
-same-file {F = F} may_leave a b is = subst (λ (f : F). Follows StandsBefore (may_leave f) (may_leave a)) is (same-follows (may_leave a))
+pub same-file : {F : Type 0} (may_leave : F → List ℕ → Type 0) (a b : F) → a ≡ b
+    → Follows StandsBefore (may_leave b) (may_leave a)
+same-file {F = F} may_leave a b is = subst (λ (f : F). Follows StandsBefore (may_leave f) (may_leave a)) is
+    (same-follows (may_leave a))
 
 pub three-more : (out a b t x y z : List ℕ) → x ≡ out ++ a → y ≡ x ++ b → z ≡ y ++ t → z ≡ out ++ (a ++ (b ++ t))
 three-more out a b t x y z first second third =
@@ -26,7 +30,8 @@ three-more out a b t x y z first second third =
 
 module _ {F : Type 0} (seen : F → List ℕ) (may_leave : F → List ℕ → Type 0) where
   pub settled-more : (pages : List (List ℕ)) (page : List ℕ) (old new : F) → IsSettled seen may_leave pages old
-      → seen new ≡ seen old ++ sized_page Two page → Only (seen new) (may_leave new) → IsSettled seen may_leave (pages ++ page ∷ []) new
+      → seen new ≡ seen old ++ sized_page Two page → Only (seen new) (may_leave new)
+      → IsSettled seen may_leave (pages ++ page ∷ []) new
   settled-more pages page old new settled added only = record {
     written = added ∙ ap (λ (l : List ℕ). l ++ sized_page Two page) settled.written ∙ sym (sized-more Two pages page);
     durable = only;
@@ -47,7 +52,9 @@ module _ {F : Type 0} (seen : F → List ℕ) (may_leave : F → List ℕ → Ty
       record { torn = from.2.torn; same = from.2.same ∙ ap (λ (l : List ℕ). l ++ from.2.torn) was }
 
   -- where a call went well
-  pub told-more : {T E : Type 0} (r : Result T E) (page : List ℕ) (old new : F) → OnOk r (seen new ≡ seen old ++ sized_page Two page) → OnOk r (Only (seen new) (may_leave new))
-      → OnOk r ((pages : List (List ℕ)) → IsSettled seen may_leave pages old → IsSettled seen may_leave (pages ++ page ∷ []) new)
+  pub told-more : {T E : Type 0} (r : Result T E) (page : List ℕ) (old new : F)
+      → OnOk r (seen new ≡ seen old ++ sized_page Two page) → OnOk r (Only (seen new) (may_leave new))
+      → OnOk r ((pages : List (List ℕ)) → IsSettled seen may_leave pages old
+      → IsSettled seen may_leave (pages ++ page ∷ []) new)
   told-more (Ok x) page old new added only = λ pages settled. settled-more pages page old new settled added only
   told-more (Err e) page old new added only = tt

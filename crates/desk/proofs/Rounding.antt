@@ -8,10 +8,12 @@ use Rattle.desk_steps.specs.Turning.{RoundIsRefused, Rounds}
 use Rattle.desk_steps.specs.declared.turned.Turned.{Turned}
 use Rattle.desk_steps.proofs.OneMore.{refused-agree, rounds-agree}
 
-pub round-agrees : {E : Type 0} (inlets : List NamedInlet) (outlets : List NamedOutlet) (result : Result Turned E) (s t : DeskState) → Agrees inlets outlets s
+pub round-agrees : {E : Type 0} (inlets : List NamedInlet) (outlets : List NamedOutlet) (result : Result Turned E)
+    (s t : DeskState) → Agrees inlets outlets s
     → IfOk result (λ turned. Rounds turned s t) → OnErr result (RoundIsRefused s t) → Agrees inlets outlets t
 round-agrees inlets outlets (Ok turned) s t h ok err = rounds-agree inlets outlets turned s t h ok
 round-agrees inlets outlets (Err e) s t h ok err = refused-agree inlets outlets s t h err
 
-pub few-seats : (inlets : List NamedInlet) (outlets : List NamedOutlet) (s : DeskState) → Agrees inlets outlets s → length s.side.seats < 2 ^ 32
+pub few-seats : (inlets : List NamedInlet) (outlets : List NamedOutlet) (s : DeskState) → Agrees inlets outlets s
+    → length s.side.seats < 2 ^ 32
 few-seats inlets outlets s h = omega (arith, h.few, ap length h.seat_names, length-map s.side.seats seat_name)

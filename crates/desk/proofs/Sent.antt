@@ -37,8 +37,16 @@ side_send = search (seat_send, way_send, sendable, crosses) depth 100 fits 50000
 module _ (K S T : RattleType) (k : DeskName.Ghosts K.Denot) where
   module _ (g : BuildHasher.Ghosts S.Denot T.Denot) (h : Hasher.Ghosts T.Denot) (s : IsSend S) where
     desk_send : IsSend (Desk.the_row K S T k g h)
-    desk_send = view_send _ _ _ _ _ (declared_send (Desk.TheInside.the_type K S T k g h)
-        (recorded_send S T g h s, (side_send, (search (turn_log_send, sendable, crosses) depth 40, (search (sendable, crosses) depth 40, tt)))))
+    desk_send = view_send _ _ _ _ _ (declared_send (Desk.TheInside.the_type K S T k g h) (
+      recorded_send S T g h s,
+      (
+        side_send,
+        (
+          search (turn_log_send, sendable, crosses) depth 40,
+          (search (sendable, crosses) depth 40, tt),
+        ),
+      ),
+    ))
 
     pub shared_sync : IsSync (Shared.the_row K S T k g h)
     shared_sync = search (desk_send, sendable, crosses) depth 100 fits 500000

@@ -45,40 +45,50 @@ whose c p k =
 not-same : (m n : ℕ) → m ≢ n → (m == n) ≡ false
 not-same m n ne = elim (eqb_tells m n) [ inl q ↦ absurd (ne q.1) | inr q ↦ q.0 ]
 
-apart-by : (c p j k : ℕ) → j < c + p + 1 → k < c + p + 1 → j ≢ k → Whose c p j → Whose c p k → is_same_source (source_at c p j) (source_at c p k) ≡ false
-apart-by c p j k lj lk ne (ofClient a x) (ofClient b y) = rw (x, y) (not-same (j + 1) (k + 1) (λ e. ne (omega (arith, e))))
+apart-by : (c p j k : ℕ) → j < c + p + 1 → k < c + p + 1 → j ≢ k → Whose c p j → Whose c p k
+    → is_same_source (source_at c p j) (source_at c p k) ≡ false
+apart-by c p j k lj lk ne (ofClient a x) (ofClient b y) =
+    rw (x, y) (not-same (j + 1) (k + 1) (λ e. ne (omega (arith, e))))
 apart-by c p j k lj lk ne (ofClient a x) (ofPort b d y) = rw (x, y) refl
 apart-by c p j k lj lk ne (ofClient a x) (ofClock b y) = rw (x, y) refl
 apart-by c p j k lj lk ne (ofPort a d x) (ofClient b y) = rw (x, y) refl
-apart-by c p j k lj lk ne (ofPort a d x) (ofPort b f y) = rw (x, y) (not-same ((j - c) + 1) ((k - c) + 1) (λ e. ne (omega (arith, e, a, b))))
+apart-by c p j k lj lk ne (ofPort a d x) (ofPort b f y) =
+    rw (x, y) (not-same ((j - c) + 1) ((k - c) + 1) (λ e. ne (omega (arith, e, a, b))))
 apart-by c p j k lj lk ne (ofPort a d x) (ofClock b y) = rw (x, y) refl
 apart-by c p j k lj lk ne (ofClock a x) (ofClient b y) = rw (x, y) refl
 apart-by c p j k lj lk ne (ofClock a x) (ofPort b d y) = rw (x, y) refl
 apart-by c p j k lj lk ne (ofClock a x) (ofClock b y) = absurd (ne (omega (arith, lj, lk, a, b)))
 
-module _ (clients ports : ℕ) (recorded : Recorded) (side : SideState) (inlets : List EventRing) (outlets : List ToldRing)
+module _ (clients ports : ℕ) (recorded : Recorded) (side : SideState) (inlets : List EventRing)
+    (outlets : List ToldRing)
     (o : IsOpened clients ports side inlets outlets) (none : recorded.kept ≡ nothing_kept) (few : clients + ports < 65_535) where
   -- the seat that an inlet's name is of
-  seat-of : (k : ℕ) (a : NamedInlet) → slice_get (map inlet_name inlets) k ≡ Some a → (x : SeatState) × (slice_get side.seats k ≡ Some x) × (x.name ≡ a)
+  seat-of : (k : ℕ) (a : NamedInlet) → slice_get (map inlet_name inlets) k ≡ Some a
+      → (x : SeatState) × (slice_get side.seats k ≡ Some x) × (x.name ≡ a)
   seat-of k a at = named seat_name side.seats (map inlet_name inlets) k a (sym o.inlet_names) at
 
-  pub source-of : (k : ℕ) (a : NamedInlet) → slice_get (map inlet_name inlets) k ≡ Some a → a.source ≡ source_at clients ports k
+  pub source-of : (k : ℕ) (a : NamedInlet) → slice_get (map inlet_name inlets) k ≡ Some a
+      → a.source ≡ source_at clients ports k
   source-of k a at =
       let x = seat-of k a at in
-      ap (λ (n : NamedInlet). n.source) (sym x.2) ∙ (o.arranged.sources k x.0 x.1 ∙ rw (o.client_count, o.port_count) refl)
+      ap (λ (n : NamedInlet). n.source) (sym x.2)
+      ∙ (o.arranged.sources k x.0 x.1 ∙ rw (o.client_count, o.port_count) refl)
 
   pub inlet-count : length (map inlet_name inlets) ≡ clients + ports + 1
   inlet-count =
-      ap length o.inlet_names ∙ (length-map side.seats seat_name ∙ (o.arranged.seat_count ∙ rw (o.client_count, o.port_count) refl))
+      ap length o.inlet_names ∙ (length-map side.seats seat_name
+      ∙ (o.arranged.seat_count ∙ rw (o.client_count, o.port_count) refl))
 
-  pub recipient-of : (d : ℕ) (w : NamedOutlet) → slice_get (map outlet_name outlets) d ≡ Some w → w.to ≡ recipient_at clients d
+  pub recipient-of : (d : ℕ) (w : NamedOutlet) → slice_get (map outlet_name outlets) d ≡ Some w
+      → w.to ≡ recipient_at clients d
   recipient-of d w at =
       let x = named way_name side.ways (map outlet_name outlets) d w (sym o.outlet_names) at in
       ap (λ (n : NamedOutlet). n.to) (sym x.2) ∙ (o.arranged.recipients d x.0 x.1 ∙ rw (o.client_count) refl)
 
   pub outlet-count : length (map outlet_name outlets) ≡ clients + ports
   outlet-count =
-      ap length o.outlet_names ∙ (length-map side.ways way_name ∙ (o.arranged.way_count ∙ rw (o.client_count, o.port_count) refl))
+      ap length o.outlet_names ∙ (length-map side.ways way_name
+      ∙ (o.arranged.way_count ∙ rw (o.client_count, o.port_count) refl))
 
   inside : (k : ℕ) (a : NamedInlet) → slice_get (map inlet_name inlets) k ≡ Some a → k < clients + ports + 1
   inside k a at = omega (arith, slice_get_within (map inlet_name inlets) k a at, inlet-count)
@@ -86,24 +96,29 @@ module _ (clients ports : ℕ) (recorded : Recorded) (side : SideState) (inlets 
   are-apart : AreApart (map inlet_name inlets)
   are-apart j k a b here there ne =
       rw (source-of j a here, source-of k b there)
-      (apart-by clients ports j k (inside j a here) (inside k b there) ne (whose clients ports j) (whose clients ports k))
+      (apart-by clients ports j k (inside j a here) (inside k b there) ne (whose clients ports j)
+      (whose clients ports k))
 
-  pub agrees-start : Agrees (map inlet_name inlets) (map outlet_name outlets) (record { recorded = recorded; side = side })
+  pub agrees-start : Agrees (map inlet_name inlets) (map outlet_name outlets)
+      (record { recorded = recorded; side = side })
   agrees-start = record {
     seat_names = sym o.inlet_names;
     way_names = sym o.outlet_names;
     apart = are-apart;
     few = omega (arith, inlet-count, few);
     from_all = λ k a at.
-        let fresh : a.gave ≡ [] = rw (get_or_from_slice_get side.seats k a a at) at (o.seats_fresh k a (slice_get_within side.seats k a at)).0 in
+        let fresh : a.gave ≡ [] = rw (get_or_from_slice_get side.seats k a a at) at
+        (o.seats_fresh k a (slice_get_within side.seats k a at)).0 in
         rw (none, fresh) refl;
     to_all = λ d w at.
-        let fresh : w.sent ≡ [] = rw (get_or_from_slice_get side.ways d w w at) at (o.ways_fresh d w (slice_get_within side.ways d w at)).0 in
+        let fresh : w.sent ≡ [] = rw (get_or_from_slice_get side.ways d w w at) at
+        (o.ways_fresh d w (slice_get_within side.ways d w at)).0 in
         rw (none, fresh) (([], refl), λ no. refl);
     named = rw none (λ i e at. absurd (cc at));
   }
 
-  pub are-for : (offered : Offered) → offered.inlets ≡ map inlet_name inlets → offered.outlets ≡ map outlet_name outlets → AreFor clients ports offered
+  pub are-for : (offered : Offered) → offered.inlets ≡ map inlet_name inlets → offered.outlets ≡ map outlet_name outlets
+      → AreFor clients ports offered
   are-for offered is os = record {
     inlet_count = ap length is ∙ inlet-count;
     sources = λ k a at. source-of k a (ap (λ (z : List NamedInlet). slice_get z k) (sym is) ∙ at);

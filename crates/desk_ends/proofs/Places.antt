@@ -1,5 +1,6 @@
 -- One element of a list changes.
-use Rattle.std.proofs.Common.{◌≡◌, ◌≢◌, ℕ, zero, suc, ◌<◌, List, [], ◌∷◌, length, Some, slice_get, slice_set, get_or, refl, ap, sym, ◌∙◌, subst, arith, inl, inr}
+use Rattle.std.proofs.Common.{◌≡◌, ◌≢◌, ℕ, zero, suc, ◌<◌, List, [], ◌∷◌, length, Some, slice_get, slice_set, get_or}
+use Rattle.std.proofs.Common.{refl, ap, sym, ◌∙◌, subst, arith, inl, inr}
 use Rattle.std.proofs.lemmas.Option.{slice_get-get_or}
 use Rattle.std.proofs.lemmas.Bool.Decides.{eqb_tells}
 
@@ -8,7 +9,8 @@ get-set-same [] i y h = absurd (omega arith)
 get-set-same (x ∷ xs) zero y h = refl
 get-set-same (x ∷ xs) (suc i) y h = get-set-same xs i y (omega arith)
 
-pub get-set-other : {A : Type 0} (xs : List A) (i k : ℕ) (y : A) → k ≢ i → slice_get (slice_set xs i y) k ≡ slice_get xs k
+pub get-set-other : {A : Type 0} (xs : List A) (i k : ℕ) (y : A) → k ≢ i
+    → slice_get (slice_set xs i y) k ≡ slice_get xs k
 get-set-other [] i k y ne = refl
 get-set-other (x ∷ xs) zero zero y ne = absurd (ne refl)
 get-set-other (x ∷ xs) zero (suc k) y ne = refl
@@ -29,7 +31,8 @@ get-inside (x ∷ xs) zero h = (x, refl)
 get-inside (x ∷ xs) (suc i) h = get-inside xs i (omega arith)
 
 -- one element changed as P says, and each other one may be said to have too
-pub each-set : {A : Type 0} (P : A → A → Type 0) (xs : List A) (i : ℕ) (x y : A) → i < length xs → ((z : A) → P z z) → P (get_or xs i x) y
+pub each-set : {A : Type 0} (P : A → A → Type 0) (xs : List A) (i : ℕ) (x y : A) → i < length xs → ((z : A) → P z z)
+    → P (get_or xs i x) y
     → (k : ℕ) (z : A) → slice_get xs k ≡ Some z → (v : A) × (slice_get (slice_set xs i y) k ≡ Some v) × P z v
 each-set {A} P xs i x y h stays p k z at =
     elim (eqb_tells k i) [

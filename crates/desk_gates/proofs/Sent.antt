@@ -1,4 +1,5 @@
--- An outlet's pen may be shared, and an inlet's gate may go to another thread, since what the threads share of a desk may
+-- An outlet's pen may be shared, and an inlet's gate may go to another thread, since what the threads share of a desk
+-- may
 -- be shared.
 use denote.RattleType.{RattleType}
 use denote.Ref.{NamedLft}

@@ -16,10 +16,12 @@ all-one : {A : Type 0} (P : A → Type 0) (y : A) → P y → All P (y ∷ [])
 all-one P y h zero d lt = h
 all-one P y h (suc k) d lt = absurd (omega arith)
 
-one-more : {A B : Type 0} (f : A → B) (xs : List A) (y : A) (ys : List B) (z : B) → map f xs ≡ ys → f y ≡ z → map f (xs ++ y ∷ []) ≡ ys ++ z ∷ []
+one-more : {A B : Type 0} (f : A → B) (xs : List A) (y : A) (ys : List B) (z : B) → map f xs ≡ ys → f y ≡ z
+    → map f (xs ++ y ∷ []) ≡ ys ++ z ∷ []
 one-more f xs y ys z are is = map-append f xs (y ∷ []) ∙ cc (are, is)
 
-sources-more : {X : Type 0} (xs : List X) (i : ℕ) (x : X) → i < length xs → x ≡ get_or xs i x → take i xs ++ x ∷ [] ≡ take (i + 1) xs
+sources-more : {X : Type 0} (xs : List X) (i : ℕ) (x : X) → i < length xs → x ≡ get_or xs i x
+    → take i xs ++ x ∷ [] ≡ take (i + 1) xs
 sources-more xs i x inside is = ap (λ y. take i xs ++ y ∷ []) is ∙ sym (take_more xs i x inside)
 
 pub events-more : (sources : List Source) (i : ℕ) (source : Source) (rings : List EventRing) (seats : List SeatState)
@@ -28,33 +30,40 @@ pub events-more : (sources : List Source) (i : ℕ) (source : Source) (rings : L
     → ring.source ≡ source → inlet_name ring ≡ seat_name seat → IsFreshEvents ring → IsFreshSeat seat
     → MadeEvents (take (i + 1) sources) (rings ++ ring ∷ []) (seats ++ seat ∷ [])
 events-more sources i source rings seats ring seat inside is made own name fresh unread = record {
-  sources_are = one-more (λ (r : EventRing). r.source) rings ring (take i sources) source made.sources_are own ∙ sources-more sources i source inside is;
-  names = one-more inlet_name rings ring (map seat_name seats) (seat_name seat) made.names name ∙ sym (map-append seat_name seats (seat ∷ []));
+  sources_are = one-more (λ (r : EventRing). r.source) rings ring (take i sources) source made.sources_are own
+      ∙ sources-more sources i source inside is;
+  names = one-more inlet_name rings ring (map seat_name seats) (seat_name seat) made.names name
+      ∙ sym (map-append seat_name seats (seat ∷ []));
   fresh = All-append IsFreshEvents rings (ring ∷ []) made.fresh (all-one IsFreshEvents ring fresh);
   unread = All-append IsFreshSeat seats (seat ∷ []) made.unread (all-one IsFreshSeat seat unread);
 }
 
-pub lists-more : (recipients : List Recipient) (i : ℕ) (to : Recipient) (ways : List WayState) (rings : List ToldRing) (way : WayState) (ring : ToldRing)
+pub lists-more : (recipients : List Recipient) (i : ℕ) (to : Recipient) (ways : List WayState) (rings : List ToldRing)
+    (way : WayState) (ring : ToldRing)
     → i < length recipients → to ≡ get_or recipients i to → MadeLists (take i recipients) ways rings
     → way.name.to ≡ to → way_name way ≡ outlet_name ring → IsFreshWay way → IsFreshLists ring
     → MadeLists (take (i + 1) recipients) (ways ++ way ∷ []) (rings ++ ring ∷ [])
 lists-more recipients i to ways rings way ring inside is made own name fresh unread = record {
-  recipients_are = one-more (λ (w : WayState). w.name.to) ways way (take i recipients) to made.recipients_are own ∙ sources-more recipients i to inside is;
-  names = one-more way_name ways way (map outlet_name rings) (outlet_name ring) made.names name ∙ sym (map-append outlet_name rings (ring ∷ []));
+  recipients_are = one-more (λ (w : WayState). w.name.to) ways way (take i recipients) to made.recipients_are own
+      ∙ sources-more recipients i to inside is;
+  names = one-more way_name ways way (map outlet_name rings) (outlet_name ring) made.names name
+      ∙ sym (map-append outlet_name rings (ring ∷ []));
   fresh = All-append IsFreshWay ways (way ∷ []) made.fresh (all-one IsFreshWay way fresh);
   unread = All-append IsFreshLists rings (ring ∷ []) made.unread (all-one IsFreshLists ring unread);
 }
 
 -- ---- handed out by position
 
-next-behind : {A : Type 0} (xs : List A) (n : ℕ) (y : A) (ys : List A) → y ∷ ys ≡ drop n xs → (slice_get xs n ≡ Some y) × (ys ≡ drop (suc n) xs)
+next-behind : {A : Type 0} (xs : List A) (n : ℕ) (y : A) (ys : List A) → y ∷ ys ≡ drop n xs
+    → (slice_get xs n ≡ Some y) × (ys ≡ drop (suc n) xs)
 next-behind [] zero y ys h = absurd cc
 next-behind [] (suc n) y ys h = absurd cc
 next-behind (x ∷ xs) zero y ys h = (cc, cc)
 next-behind (x ∷ xs) (suc n) y ys h = next-behind xs n y ys h
 
 -- what stands at a place, and what is left behind it
-pub first-behind : {A : Type 0} (xs : List A) (n : ℕ) (y : A) (ys : List A) → y ∷ ys ≡ drop n xs → (slice_get xs n ≡ Some y) × (ys ≡ drop (n + 1) xs)
+pub first-behind : {A : Type 0} (xs : List A) (n : ℕ) (y : A) (ys : List A) → y ∷ ys ≡ drop n xs
+    → (slice_get xs n ≡ Some y) × (ys ≡ drop (n + 1) xs)
 first-behind xs n y ys h = rw add-one (next-behind xs n y ys h)
 
 -- what holds of each place holds with one more
@@ -64,4 +73,5 @@ pub each-and-one : {A : Type 0} (P : ℕ → A → Type 0) (xs : List A) (y : A)
 each-and-one {A} P [] y all here zero x at = subst (λ (z : A). P 0 z) (cc at) here
 each-and-one P [] y all here (suc k) x at = absurd (cc at)
 each-and-one P (z ∷ zs) y all here zero x at = all zero x at
-each-and-one P (z ∷ zs) y all here (suc k) x at = each-and-one (λ j w. P (suc j) w) zs y (λ j w. all (suc j) w) here k x at
+each-and-one P (z ∷ zs) y all here (suc k) x at =
+    each-and-one (λ j w. P (suc j) w) zs y (λ j w. all (suc j) w) here k x at

@@ -1,6 +1,7 @@
 -- What ways know of room, after looks and lists.
 use Rattle.std.proofs.Common.{◌≡◌, ◌≤◌, ◌-◌, ℕ, Bool, true, false, List, refl, ◌∙◌, arith, inl, inr}
-use Rattle.desk_ends.specs.Seats.{KnowsRoom, WayState, WayLooked, WayMayRelease, WayMayStage, WaySent, WaysLooked, WaysMayRelease, WaysMayStage}
+use Rattle.desk_ends.specs.Seats.{KnowsRoom, WayState, WayLooked, WayMayRelease, WayMayStage, WaySent, WaysLooked}
+use Rattle.desk_ends.specs.Seats.{WaysMayRelease, WaysMayStage}
 use Rattle.std.specs.Prelude.{if◌then◌else◌}
 use Rattle.gate_events.specs.Sources.{unless_empty}
 use Rattle.desk_side.specs.declared.said.Said.{Said}
@@ -32,9 +33,11 @@ sent-room : (n : ℕ) (lists : _) (w v : WayState) → WaySent lists w v → Kno
 sent-room n lists w v sent (inl cut) = inl (sent-cut lists w v sent cut v.cut refl)
 sent-room n lists w v sent (inr free) = inr (omega (arith, sent.takes, free))
 
-pub told-room : (n : ℕ) (said : Said) (old new : List WayState) → Tells said old new → AllKnowRoom n old → AllKnowRoom (n - 1) new
+pub told-room : (n : ℕ) (said : Said) (old new : List WayState) → Tells said old new → AllKnowRoom n old
+    → AllKnowRoom (n - 1) new
 told-room n said old new tells all d v at =
-    let w = come-to (λ (a b : WayState). WaySent (unless_empty (list_for a.name.to said)) a b) old new tells.count tells.each d v at in
+    let w = come-to (λ (a b : WayState). WaySent (unless_empty (list_for a.name.to said)) a b) old new tells.count
+    tells.each d v at in
     sent-room n (unless_empty (list_for w.0.name.to said)) w.0 v w.2 (all d w.0 w.1)
 
 -- ---- ways that stage, and that release

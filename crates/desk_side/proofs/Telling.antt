@@ -19,7 +19,8 @@ use Rattle.desk_side.proofs.Moves.{come-to}
 
 -- ---- seats and ways by themselves
 
-pub knows-some : (a : SeatState) (empty : Bool) → (length a.known ≡ 0 → empty ≡ true) → empty ≡ false → 0 < length a.known
+pub knows-some : (a : SeatState) (empty : Bool) → (length a.known ≡ 0 → empty ≡ true) → empty ≡ false
+    → 0 < length a.known
 knows-some a empty is isnt =
     elim (eqb_tells (length a.known) 0) [
       | inl q ↦ absurd (cc (is q.1, isnt))
@@ -39,7 +40,8 @@ way-stays w = record {
 }
 
 -- a way that isn't full has room, or is cut
-room-by : (kept : ℕ) (v : WayState) (full : Bool) → ((v.cut ≡ false) × (v.free ≤ kept) → full ≡ true) → full ≡ false → (cut : Bool) → v.cut ≡ cut → (v.cut ≡ true) ⊎ (kept < v.free)
+room-by : (kept : ℕ) (v : WayState) (full : Bool) → ((v.cut ≡ false) × (v.free ≤ kept) → full ≡ true) → full ≡ false
+    → (cut : Bool) → v.cut ≡ cut → (v.cut ≡ true) ⊎ (kept < v.free)
 room-by kept v full is isnt true cut = inl cut
 room-by kept v full is isnt false cut =
     elim (leb_tells v.free kept) [
@@ -47,13 +49,15 @@ room-by kept v full is isnt false cut =
       | inr q ↦ inr (omega (arith, q.1))
     ]
 
-pub has-room : (kept : ℕ) (ways : List WayState) (i d : ℕ) (v w : WayState) (full : Bool) → i < length ways → d ≡ i → slice_get (slice_set ways i v) d ≡ Some w
+pub has-room : (kept : ℕ) (ways : List WayState) (i d : ℕ) (v w : WayState) (full : Bool) → i < length ways → d ≡ i
+    → slice_get (slice_set ways i v) d ≡ Some w
     → ((v.cut ≡ false) × (v.free ≤ kept) → full ≡ true) → full ≡ false → (w.cut ≡ true) ⊎ (kept < w.free)
 has-room kept ways i d v w full inside place at is isnt =
     let same : v ≡ w = get-same (slice_set ways i v) i v w (get-set-same ways i v inside) (rw place at at) in
     subst (λ (z : WayState). (z.cut ≡ true) ⊎ (kept < z.free)) same (room-by kept v full is isnt v.cut refl)
 
-keeps-room : (kept : ℕ) (w v : WayState) → WayLooked w v → (w.cut ≡ true) ⊎ (kept < w.free) → (v.cut ≡ true) ⊎ (kept < v.free)
+keeps-room : (kept : ℕ) (w v : WayState) → WayLooked w v → (w.cut ≡ true) ⊎ (kept < w.free)
+    → (v.cut ≡ true) ⊎ (kept < v.free)
 keeps-room kept w v l (inl cut) = inl (l.2 ∙ cut)
 keeps-room kept w v l (inr free) = inr (omega (arith, l.3, free))
 
@@ -67,10 +71,17 @@ client-place-is clients d o inside is =
     let back : (d + 1) - 1 ≡ d = omega arith in
     rw (is, le-true 1 (d + 1) (omega arith), le-true (d + 1) clients (omega (arith, inside)), back) refl
 
-port-place-is : (clients ports d : ℕ) (o : Option ℕ) → clients ≤ d → d < clients + ports → o ≡ Some ((d - clients) + 1) → port_place clients ports o ≡ Some d
+port-place-is : (clients ports d : ℕ) (o : Option ℕ) → clients ≤ d → d < clients + ports → o ≡ Some ((d - clients) + 1)
+    → port_place clients ports o ≡ Some d
 port-place-is clients ports d o behind inside is =
     let back : clients + (((d - clients) + 1) - 1) ≡ d = omega (arith, behind) in
-    rw (is, le-true 1 ((d - clients) + 1) (omega arith), le-true ((d - clients) + 1) ports (omega (arith, behind, inside)), back) refl
+    rw (
+      is,
+      le-true 1 ((d - clients) + 1) (omega arith),
+      le-true ((d - clients) + 1) ports
+          (omega (arith, behind, inside)),
+      back,
+    ) refl
 
 client-place-was : (clients d : ℕ) (o : Option ℕ) → client_place clients o ≡ Some d → (o ≡ Some (d + 1)) × (d < clients)
 client-place-was clients d None is = absurd (cc is)
@@ -88,7 +99,8 @@ client-place-was clients d (Some n) is =
       | inr p ↦ (let none : None ≡ Some d = rw (p.0) at is in absurd (cc none))
     ]
 
-port-place-was : (clients ports d : ℕ) (o : Option ℕ) → port_place clients ports o ≡ Some d → (o ≡ Some ((d - clients) + 1)) × (clients ≤ d) × (d < clients + ports)
+port-place-was : (clients ports d : ℕ) (o : Option ℕ) → port_place clients ports o ≡ Some d
+    → (o ≡ Some ((d - clients) + 1)) × (clients ≤ d) × (d < clients + ports)
 port-place-was clients ports d None is = absurd (cc is)
 port-place-was clients ports d (Some n) is =
     elim (leb_tells 1 n) [
@@ -123,10 +135,12 @@ number-was : (n : ℕ) (o : Option ℕ) → is_the_number n o ≡ true → o ≡
 number-was n None is = absurd (cc is)
 number-was n (Some m) is = elim (eqb_tells m n) [ inl q ↦ ap Some q.1 | inr q ↦ absurd (cc (is, q.0)) ]
 
-aimed-client : (clients d : ℕ) (client port : Option ℕ) (to : Recipient) → to ≡ recipient_at clients d → d < clients → is_aimed client port to ≡ is_the_number (d + 1) client
+aimed-client : (clients d : ℕ) (client port : Option ℕ) (to : Recipient) → to ≡ recipient_at clients d → d < clients
+    → is_aimed client port to ≡ is_the_number (d + 1) client
 aimed-client clients d client port to is h = ap (is_aimed client port) (is ∙ recipient-client clients d h)
 
-aimed-port : (clients d : ℕ) (client port : Option ℕ) (to : Recipient) → to ≡ recipient_at clients d → clients ≤ d → is_aimed client port to ≡ is_the_number ((d - clients) + 1) port
+aimed-port : (clients d : ℕ) (client port : Option ℕ) (to : Recipient) → to ≡ recipient_at clients d → clients ≤ d
+    → is_aimed client port to ≡ is_the_number ((d - clients) + 1) port
 aimed-port clients d client port to is h = ap (is_aimed client port) (is ∙ recipient-port clients d h)
 
 -- ---- room
@@ -134,41 +148,63 @@ aimed-port clients d client port to is h = ap (is_aimed client port) (is ∙ rec
 module _ (kept clients ports : ℕ) (client port : Option ℕ) (new : List WayState)
     (names : (d : ℕ) (w : WayState) → slice_get new d ≡ Some w → w.name.to ≡ recipient_at clients d) (count : length new ≡ clients + ports) where
   pub have-room : (mid : List WayState) → WaysLooked mid new
-      → ((d : ℕ) (w : WayState) → client_place clients client ≡ Some d → slice_get mid d ≡ Some w → (w.cut ≡ true) ⊎ (kept < w.free))
-      → ((d : ℕ) (w : WayState) → port_place clients ports port ≡ Some d → slice_get new d ≡ Some w → (w.cut ≡ true) ⊎ (kept < w.free))
+      → ((d : ℕ) (w : WayState) → client_place clients client ≡ Some d → slice_get mid d ≡ Some w
+      → (w.cut ≡ true) ⊎ (kept < w.free))
+      → ((d : ℕ) (w : WayState) → port_place clients ports port ≡ Some d → slice_get new d ≡ Some w
+      → (w.cut ≡ true) ⊎ (kept < w.free))
       → HaveRoom kept client port new
   have-room mid looked first second d w at aim =
       elim (leb_tells (suc d) clients) [
         | inl q ↦ (
             let inside : d < clients = omega (arith, q.1) in
-            let is : client ≡ Some (d + 1) = number-was (d + 1) client (sym (aimed-client clients d client port w.name.to (names d w at) inside) ∙ aim) in
+            let is : client ≡ Some (d + 1) = number-was (d + 1) client
+            (sym (aimed-client clients d client port w.name.to (names d w at) inside) ∙ aim) in
             let v = come-to WayLooked mid new looked.count looked.each d w at in
             keeps-room kept v.0 w v.2 (first d v.0 (client-place-is clients d client inside is) v.1)
             )
         | inr q ↦ (
             let behind : clients ≤ d = omega (arith, q.1) in
             let inside : d < clients + ports = omega (arith, slice_get_within new d w at, count) in
-            let is : port ≡ Some ((d - clients) + 1) = number-was ((d - clients) + 1) port (sym (aimed-port clients d client port w.name.to (names d w at) behind) ∙ aim) in
+            let is : port ≡ Some ((d - clients) + 1) =
+            number-was ((d - clients) + 1) port (sym (aimed-port clients d client port w.name.to
+            (names d w at) behind) ∙ aim) in
             second d w (port-place-is clients ports d port behind inside is) at
             )
       ]
 
-  pub client-held : (d : ℕ) (w : WayState) → client_place clients client ≡ Some d → slice_get new d ≡ Some w → w.cut ≡ false → w.free ≤ kept → LacksRoom kept client port new
+  pub client-held : (d : ℕ) (w : WayState) → client_place clients client ≡ Some d → slice_get new d ≡ Some w
+      → w.cut ≡ false → w.free ≤ kept → LacksRoom kept client port new
   client-held d w place at cut free =
-      let was = client-place-was clients d client place in
-      (d, w, at, aimed-client clients d client port w.name.to (names d w at) was.1 ∙ number-is (d + 1) client was.0, cut, free)
+      let was = client-place-was clients d client place in (
+        d,
+        w,
+        at,
+        aimed-client clients d client port w.name.to (names d w at) was.1
+            ∙ number-is (d + 1) client was.0,
+        cut,
+        free,
+      )
 
-  pub port-held : (d : ℕ) (w : WayState) → port_place clients ports port ≡ Some d → slice_get new d ≡ Some w → w.cut ≡ false → w.free ≤ kept → LacksRoom kept client port new
+  pub port-held : (d : ℕ) (w : WayState) → port_place clients ports port ≡ Some d → slice_get new d ≡ Some w
+      → w.cut ≡ false → w.free ≤ kept → LacksRoom kept client port new
   port-held d w place at cut free =
-      let was = port-place-was clients ports d port place in
-      (d, w, at, aimed-port clients d client port w.name.to (names d w at) was.1 ∙ number-is ((d - clients) + 1) port was.0, cut, free)
+      let was = port-place-was clients ports d port place in (
+        d,
+        w,
+        at,
+        aimed-port clients d client port w.name.to (names d w at) was.1
+            ∙ number-is ((d - clients) + 1) port was.0,
+        cut,
+        free,
+      )
 
 -- ---- lists
 
 -- what becomes of the way at a place, and of each other
 at-place : (place : Option ℕ) (lists : List (List LinkOut)) (old new : List WayState)
     → ((d : ℕ) → place ≡ Some d → ChangesAt d (WaySent lists) old new) → (place ≡ None → new ≡ old)
-    → (d : ℕ) (w : WayState) → slice_get old d ≡ Some w → place ≡ Some d → (v : WayState) × (slice_get new d ≡ Some v) × WaySent lists w v
+    → (d : ℕ) (w : WayState) → slice_get old d ≡ Some w → place ≡ Some d
+    → (v : WayState) × (slice_get new d ≡ Some v) × WaySent lists w v
 at-place place lists old new there nowhere d w at is = (there d is).there w at
 
 off-place : (place : Option ℕ) (lists : List (List LinkOut)) (old new : List WayState)
@@ -178,7 +214,8 @@ off-place None lists old new there nowhere d w at not = ap (λ (z : List WayStat
 off-place (Some i) lists old new there nowhere d w at not = (there i refl).others d (λ e. not (ap Some (sym e))) ∙ at
 
 count-place : (place : Option ℕ) (lists : List (List LinkOut)) (old new : List WayState)
-    → ((d : ℕ) → place ≡ Some d → ChangesAt d (WaySent lists) old new) → (place ≡ None → new ≡ old) → length new ≡ length old
+    → ((d : ℕ) → place ≡ Some d → ChangesAt d (WaySent lists) old new) → (place ≡ None → new ≡ old)
+    → length new ≡ length old
 count-place None lists old new there nowhere = ap length (nowhere refl)
 count-place (Some i) lists old new there nowhere = (there i refl).count
 
@@ -197,43 +234,66 @@ not-port n s isnt = rw isnt refl
 
 module _ (clients ports : ℕ) (said : Said) (old mid new : List WayState)
     (names : (d : ℕ) (w : WayState) → slice_get old d ≡ Some w → w.name.to ≡ recipient_at clients d)
-    (first : (d : ℕ) → client_place clients said.client ≡ Some d → ChangesAt d (WaySent (unless_empty said.client_told)) old mid)
+    (first : (d : ℕ) → client_place clients said.client ≡ Some d
+    → ChangesAt d (WaySent (unless_empty said.client_told)) old mid)
     (first-none : client_place clients said.client ≡ None → mid ≡ old)
-    (second : (d : ℕ) → port_place clients ports said.port ≡ Some d → ChangesAt d (WaySent (unless_empty said.port_told)) mid new)
+    (second : (d : ℕ) → port_place clients ports said.port ≡ Some d
+    → ChangesAt d (WaySent (unless_empty said.port_told)) mid new)
     (second-none : port_place clients ports said.port ≡ None → new ≡ mid) (count : length old ≡ clients + ports) where
   abbrev Sent : Recipient → ℕ → WayState → Type 0
   Sent to d w = (v : WayState) × (slice_get new d ≡ Some v) × WaySent (unless_empty (list_for to said)) w v
 
-  to-client : (d : ℕ) (w : WayState) → slice_get old d ≡ Some w → d < clients → (b : Bool) → is_the_number (d + 1) said.client ≡ b → Sent (recipients.Client (d + 1)) d w
+  to-client : (d : ℕ) (w : WayState) → slice_get old d ≡ Some w → d < clients → (b : Bool)
+      → is_the_number (d + 1) said.client ≡ b → Sent (recipients.Client (d + 1)) d w
   to-client d w at inside true is =
       let own : said.client ≡ Some (d + 1) = number-was (d + 1) said.client is in
-      let v = at-place (client_place clients said.client) (unless_empty said.client_told) old mid first first-none d w at (client-place-is clients d said.client inside own) in (
+      let v = at-place (client_place clients said.client)
+      (unless_empty said.client_told) old mid first first-none d w at
+      (client-place-is clients d said.client inside own) in (
         v.0,
-        off-place (port_place clients ports said.port) (unless_empty said.port_told) mid new second second-none d v.0 v.1 (λ e. absurd (omega (arith, inside, (port-place-was clients ports d said.port e).1))),
+        off-place (port_place clients ports said.port)
+            (unless_empty said.port_told) mid new second second-none d v.0 v.1
+            (λ e. absurd (omega (arith, inside, (port-place-was clients ports d said.port e).1))),
         subst (λ (z : List LinkOut). WaySent (unless_empty z) w v.0) (sym (said-client (d + 1) said own)) v.2,
       )
   to-client d w at inside false is =
-      let stays = off-place (client_place clients said.client) (unless_empty said.client_told) old mid first first-none d w at (λ e. absurd (cc (number-is (d + 1) said.client (client-place-was clients d said.client e).0, is))) in (
+      let stays = off-place (client_place clients said.client)
+      (unless_empty said.client_told) old mid first first-none d w at
+      (λ e. absurd (cc (number-is (d + 1) said.client (client-place-was clients d said.client e).0, is))) in (
         w,
-        off-place (port_place clients ports said.port) (unless_empty said.port_told) mid new second second-none d w stays (λ e. absurd (omega (arith, inside, (port-place-was clients ports d said.port e).1))),
+        off-place (port_place clients ports said.port)
+            (unless_empty said.port_told) mid new second second-none d w stays
+            (λ e. absurd (omega (arith, inside, (port-place-was clients ports d said.port e).1))),
         subst (λ (z : List LinkOut). WaySent (unless_empty z) w w) (sym (not-client (d + 1) said is)) (way-stays w),
       )
 
-  to-port-by : (d : ℕ) (w : WayState) → clients ≤ d → d < clients + ports → slice_get mid d ≡ Some w → (b : Bool) → is_the_number ((d - clients) + 1) said.port ≡ b → Sent (recipients.Port ((d - clients) + 1)) d w
+  to-port-by : (d : ℕ) (w : WayState) → clients ≤ d → d < clients + ports → slice_get mid d ≡ Some w → (b : Bool)
+      → is_the_number ((d - clients) + 1) said.port ≡ b → Sent (recipients.Port ((d - clients) + 1)) d w
   to-port-by d w behind inside stays true is =
       let own : said.port ≡ Some ((d - clients) + 1) = number-was ((d - clients) + 1) said.port is in
-      let v = at-place (port_place clients ports said.port) (unless_empty said.port_told) mid new second second-none d w stays (port-place-is clients ports d said.port behind inside own) in
-      (v.0, v.1, subst (λ (z : List LinkOut). WaySent (unless_empty z) w v.0) (sym (said-port ((d - clients) + 1) said own)) v.2)
+      let v = at-place (port_place clients ports said.port)
+      (unless_empty said.port_told) mid new second second-none d w stays
+      (port-place-is clients ports d said.port behind inside own) in (
+        v.0,
+        v.1,
+        subst (λ (z : List LinkOut). WaySent (unless_empty z) w v.0)
+            (sym (said-port ((d - clients) + 1) said own)) v.2,
+      )
   to-port-by d w behind inside stays false is = (
     w,
-    off-place (port_place clients ports said.port) (unless_empty said.port_told) mid new second second-none d w stays (λ e. absurd (cc (number-is ((d - clients) + 1) said.port (port-place-was clients ports d said.port e).0, is))),
-    subst (λ (z : List LinkOut). WaySent (unless_empty z) w w) (sym (not-port ((d - clients) + 1) said is)) (way-stays w),
+    off-place (port_place clients ports said.port) (unless_empty said.port_told) mid new second second-none d w stays
+        (λ e. absurd (cc (number-is ((d - clients) + 1) said.port (port-place-was clients ports d said.port e).0, is))),
+    subst (λ (z : List LinkOut). WaySent (unless_empty z) w w) (sym (not-port ((d - clients) + 1) said is))
+        (way-stays w),
   )
 
-  to-port : (d : ℕ) (w : WayState) → slice_get old d ≡ Some w → clients ≤ d → Sent (recipients.Port ((d - clients) + 1)) d w
+  to-port : (d : ℕ) (w : WayState) → slice_get old d ≡ Some w → clients ≤ d
+      → Sent (recipients.Port ((d - clients) + 1)) d w
   to-port d w at behind =
       let inside : d < clients + ports = omega (arith, slice_get_within old d w at, count) in
-      let stays = off-place (client_place clients said.client) (unless_empty said.client_told) old mid first first-none d w at (λ e. absurd (omega (arith, behind, (client-place-was clients d said.client e).1))) in
+      let stays = off-place (client_place clients said.client)
+      (unless_empty said.client_told) old mid first first-none d w at
+      (λ e. absurd (omega (arith, behind, (client-place-was clients d said.client e).1))) in
       to-port-by d w behind inside stays (is_the_number ((d - clients) + 1) said.port) refl
 
   pub tells : Tells said old new
@@ -244,11 +304,13 @@ module _ (clients ports : ℕ) (said : Said) (old mid new : List WayState)
         elim (leb_tells (suc d) clients) [
           | inl q ↦ (
               let inside : d < clients = omega (arith, q.1) in
-              subst (λ (to : Recipient). Sent to d w) (sym (names d w at ∙ recipient-client clients d inside)) (to-client d w at inside (is_the_number (d + 1) said.client) refl)
+              subst (λ (to : Recipient). Sent to d w) (sym (names d w at ∙ recipient-client clients d inside))
+              (to-client d w at inside (is_the_number (d + 1) said.client) refl)
               )
           | inr q ↦ (
               let behind : clients ≤ d = omega (arith, q.1) in
-              subst (λ (to : Recipient). Sent to d w) (sym (names d w at ∙ recipient-port clients d behind)) (to-port d w at behind)
+              subst (λ (to : Recipient). Sent to d w) (sym (names d w at ∙ recipient-port clients d behind))
+              (to-port d w at behind)
               )
         ];
   }

@@ -25,7 +25,8 @@ prefix-whole xs ys p len =
 
 prefix-both : {A : Type 0} (xs ys : List A) → IsPrefix xs ys → IsPrefix ys xs → xs ≡ ys
 prefix-both xs ys p q =
-    let none : p.0 ≡ [] = empty-list p.0 (omega (arith, length-append xs p.0, length-append ys q.0, ap length p.1, ap length q.1)) in
+    let none : p.0 ≡ [] = empty-list p.0 (omega
+    (arith, length-append xs p.0, length-append ys q.0, ap length p.1, ap length q.1)) in
     sym (append-nil xs) ∙ (ap (λ zs. xs ++ zs) (sym none) ∙ p.1)
 
 prefix-behind : {A : Type 0} (xs ys zs : List A) → IsPrefix ys zs → IsPrefix (xs ++ ys) (xs ++ zs)
@@ -33,7 +34,8 @@ prefix-behind xs ys zs p = (p.0, append_assoc xs ys p.0 ∙ ap (λ ws. xs ++ ws)
 
 -- all that a seat gave and knows, before a look and after it
 total-grows : (a b : SeatState) → SeatLooked a b → IsPrefix (a.gave ++ a.known) (b.gave ++ b.known)
-total-grows a b l = subst (λ (z : List Event). IsPrefix (a.gave ++ a.known) (z ++ b.known)) (sym l.1) (prefix-behind a.gave a.known b.known l.2)
+total-grows a b l = subst (λ (z : List Event). IsPrefix (a.gave ++ a.known) (z ++ b.known)) (sym l.1)
+    (prefix-behind a.gave a.known b.known l.2)
 
 pub begun-stays : (f : Done) (old new : List SeatState) → SeatsLooked old new → IsBegun f old → IsBegun f new
 begun-stays (put_at k source events) old new l begun = λ b at.
@@ -49,11 +51,18 @@ told-begun (put_at k source events) seats ways told = λ b at.
 told-begun (took_at d to lists) seats ways told = tt
 
 -- what an inlet said stays what its seat knows, while other ends are compared that say no more than is known
-told-stays : (f g : Done) (old new : List SeatState) (ways more : List WayState) → SeatsLooked old new → SeatsStayBut (inlet_of g) old new → WaysLooked ways more
+told-stays : (f g : Done) (old new : List SeatState) (ways more : List WayState) → SeatsLooked old new
+    → SeatsStayBut (inlet_of g) old new → WaysLooked ways more
     → IsBegun g old → IsBorneOut g new more → IsBorneOut f old ways → IsBorneOut f new more
 told-stays (took_at d to lists) g old new ways more l stay m begun here told =
-    let r = m.each d told.0 told.1 in
-    (r.0, r.1, ap (λ (n : NamedOutlet). n.to) r.2.0 ∙ told.2, subst (λ z. IsPrefix lists z) (sym r.2.1) told.3, subst (λ z. IsPrefix lists z) (sym r.2.4) told.4)
+    let r = m.each d told.0 told.1 in (
+      r.0,
+      r.1,
+      ap (λ (n : NamedOutlet). n.to) r.2.0
+          ∙ told.2,
+      subst (λ z. IsPrefix lists z) (sym r.2.1) told.3,
+      subst (λ z. IsPrefix lists z) (sym r.2.4) told.4,
+    )
 told-stays (put_at k source events) (took_at d to lists) old new ways more l stay m begun here told =
     (told.0, stay k (λ e. absurd (cc e)) ∙ told.1, told.2, told.3, told.4)
 told-stays (put_at k source events) (put_at j other all) old new ways more l stay m begun here told =
@@ -64,9 +73,17 @@ told-stays (put_at k source events) (put_at j other all) old new ways more l sta
           let b = here.0 in
           let same : r.0 ≡ b = get-same new k r.0 b r.1 (rw (q.1) here.1) in
           let looked : SeatLooked a b = subst (SeatLooked a) same r.2 in
-          let grew : IsPrefix (a.gave ++ a.known) all = subst (λ (z : List Event). IsPrefix (a.gave ++ a.known) z) here.3 (total-grows a b looked) in
-          let whole : a.gave ++ a.known ≡ all = prefix-both (a.gave ++ a.known) all grew (begun a (rw (← q.1) told.1)) in
-          (b, rw (q.1) here.1, ap (λ (n : NamedInlet). n.source) looked.0 ∙ told.2, here.3 ∙ (sym whole ∙ told.3), told.4)
+          let grew : IsPrefix (a.gave ++ a.known) all =
+          subst (λ (z : List Event). IsPrefix (a.gave ++ a.known) z) here.3 (total-grows a b looked) in
+          let whole : a.gave ++ a.known ≡ all = prefix-both (a.gave ++ a.known) all grew (begun a (rw (← q.1) told.1))
+          in (
+            b,
+            rw (q.1) here.1,
+            ap (λ (n : NamedInlet). n.source) looked.0 ∙ told.2,
+            here.3
+                ∙ (sym whole ∙ told.3),
+            told.4,
+          )
           )
       | inr q ↦ (told.0, stay k (λ e. q.1 (sym (cc e))) ∙ told.1, told.2, told.3, told.4)
     ]
@@ -78,23 +95,28 @@ FirstBegun n finished seats = (i : ℕ) (f : Done) → i < n → slice_get finis
 abbrev pub FirstTold : ℕ → List Done → List SeatState → List WayState → Type 0
 FirstTold n finished seats ways = (i : ℕ) (f : Done) → i < n → slice_get finished i ≡ Some f → IsBorneOut f seats ways
 
-pub one-begun : (i : ℕ) (finished : List Done) (g : Done) (old new : List SeatState) (more : List WayState) → slice_get finished i ≡ Some g
+pub one-begun : (i : ℕ) (finished : List Done) (g : Done) (old new : List SeatState) (more : List WayState)
+    → slice_get finished i ≡ Some g
     → SeatsLooked old new → IsBorneOut g new more → FirstBegun i finished old → FirstBegun (i + 1) finished new
 one-begun i finished g old new more here l told before j f lt at =
     elim (eqb_tells j i) [
-      | inl q ↦ subst (λ (z : Done). IsBegun z new) (get-same finished i g f here (rw (← q.1) at)) (told-begun g new more told)
+      | inl q ↦ subst (λ (z : Done). IsBegun z new) (get-same finished i g f here (rw (← q.1) at))
+          (told-begun g new more told)
       | inr q ↦ (let less : j < i = omega (arith, q.1) in begun-stays f old new l (before j f less at))
     ]
 
-pub one-told : (i : ℕ) (finished : List Done) (g : Done) (first old new : List SeatState) (ways more : List WayState) → slice_get finished i ≡ Some g
-    → SeatsLooked first old → SeatsLooked old new → SeatsStayBut (inlet_of g) old new → WaysLooked ways more → IsBorneOut g new more
+pub one-told : (i : ℕ) (finished : List Done) (g : Done) (first old new : List SeatState) (ways more : List WayState)
+    → slice_get finished i ≡ Some g
+    → SeatsLooked first old → SeatsLooked old new → SeatsStayBut (inlet_of g) old new → WaysLooked ways more
+    → IsBorneOut g new more
     → AreBegun finished first → FirstTold i finished old ways → FirstTold (i + 1) finished new more
 one-told i finished g first old new ways more here came l stay m told begun before j f lt at =
     elim (eqb_tells j i) [
       | inl q ↦ subst (λ (z : Done). IsBorneOut z new more) (get-same finished i g f here (rw (← q.1) at)) told
       | inr q ↦ (
           let less : j < i = omega (arith, q.1) in
-          told-stays f g old new ways more l stay m (begun-stays g first old came (begun i g here)) told (before j f less at)
+          told-stays f g old new ways more l stay m (begun-stays g first old came (begun i g here)) told
+          (before j f less at)
           )
     ]
 
@@ -115,8 +137,12 @@ seats-same x = record { count = refl; each = λ k a at. (a, at, (refl, refl, pre
 pub ways-same : (x : List WayState) → WaysLooked x x
 ways-same x = record { count = refl; each = λ d w at. (w, at, (refl, refl, refl, omega arith, refl, refl)) }
 
-pub seat-names : (old new : List SeatState) (names : List NamedInlet) → SeatsLooked old new → map seat_name old ≡ names → map seat_name new ≡ names
-seat-names old new names l is = each-same seat_name old new l.count (λ k a at. let r = l.each k a at in (r.0, r.1, r.2.0)) ∙ is
+pub seat-names : (old new : List SeatState) (names : List NamedInlet) → SeatsLooked old new → map seat_name old ≡ names
+    → map seat_name new ≡ names
+seat-names old new names l is = each-same seat_name old new l.count
+    (λ k a at. let r = l.each k a at in (r.0, r.1, r.2.0)) ∙ is
 
-pub way-names : (old new : List WayState) (names : List NamedOutlet) → WaysLooked old new → map way_name old ≡ names → map way_name new ≡ names
-way-names old new names l is = each-same way_name old new l.count (λ d w at. let r = l.each d w at in (r.0, r.1, r.2.0)) ∙ is
+pub way-names : (old new : List WayState) (names : List NamedOutlet) → WaysLooked old new → map way_name old ≡ names
+    → map way_name new ≡ names
+way-names old new names l is = each-same way_name old new l.count (λ d w at. let r = l.each d w at in (r.0, r.1, r.2.0))
+    ∙ is

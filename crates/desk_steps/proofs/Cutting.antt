@@ -1,5 +1,6 @@
 -- A step that is made where there is room cuts no way.
-use Rattle.std.proofs.Common.{◌≡◌, ℕ, ◌<◌, ◌+◌, Bool, true, false, [], ◌∷◌, Option, Some, None, slice_get, refl, ap, sym}
+use Rattle.std.proofs.Common.{◌≡◌, ℕ, ◌<◌, ◌+◌, Bool, true, false, [], ◌∷◌, Option, Some, None, slice_get, refl, ap}
+use Rattle.std.proofs.Common.{sym}
 use Rattle.std.proofs.Common.{◌∙◌, subst, inl, inr, ◌⊎◌, arith}
 use Rattle.gate_journal.specs.gate_law.Events as law
 use Rattle.gate_journal.specs.gate_law.Events.{is_the_number}
@@ -20,12 +21,14 @@ use Rattle.desk_side.specs.Side.{AllKnowRoom, HaveRoom}
 use Rattle.desk_steps.specs.Agreeing.{DeskState}
 use Rattle.desk_steps.specs.Turning.{SameCuts, StepsFirst}
 
-among-not : (n : ℕ) (a target : Option ℕ) → IsAmong a target → is_the_number n target ≡ false → is_the_number n a ≡ false
+among-not : (n : ℕ) (a target : Option ℕ) → IsAmong a target → is_the_number n target ≡ false
+    → is_the_number n a ≡ false
 among-not n None target among isnt = refl
 among-not n (Some m) target among isnt = subst (λ (z : Option ℕ). is_the_number n z ≡ false) among isnt
 
 -- whom nothing is aimed at nothing is said to
-not-aimed : (to : Recipient) (client port : Option ℕ) (b : law.Batch) (s : Said) → IsSaid b s → IsAmong b.client client → IsAmong b.port port
+not-aimed : (to : Recipient) (client port : Option ℕ) (b : law.Batch) (s : Said) → IsSaid b s → IsAmong b.client client
+    → IsAmong b.port port
     → is_aimed client port to ≡ false → list_for to s ≡ []
 not-aimed (recipients.Client n) client port b s is among other isnt =
     let none : is_the_number n s.client ≡ false = rw (is.0) (among-not n b.client client among isnt) in
@@ -38,7 +41,8 @@ stays-cut : (lists : _) (w v : WayState) → WaySent lists w v → w.cut ≡ tru
 stays-cut lists w v sent cut true is = is ∙ sym cut
 stays-cut lists w v sent cut false is = absurd (cc (cut, (sent.whole is).0))
 
-way-stays : (kept : ℕ) (said : Said) (client port : Option ℕ) (b : law.Batch) (w v : WayState) → IsSaid b said → IsAmong b.client client → IsAmong b.port port
+way-stays : (kept : ℕ) (said : Said) (client port : Option ℕ) (b : law.Batch) (w v : WayState) → IsSaid b said
+    → IsAmong b.client client → IsAmong b.port port
     → (is_aimed client port w.name.to ≡ true → (w.cut ≡ true) ⊎ (kept < w.free))
     → WaySent (unless_empty (list_for w.name.to said)) w v
     → (aimed : Bool) → is_aimed client port w.name.to ≡ aimed → v.cut ≡ w.cut
@@ -47,10 +51,12 @@ way-stays kept said client port b w v is one two room sent true aim =
       | inl cut ↦ stays-cut (unless_empty (list_for w.name.to said)) w v sent cut v.cut refl
       | inr free ↦ sent.stays (inl (omega (arith, free)))
     ]
-way-stays kept said client port b w v is one two room sent false aim = sent.stays (inr (ap unless_empty (not-aimed w.name.to client port b said is one two aim)))
+way-stays kept said client port b w v is one two room sent false aim =
+    sent.stays (inr (ap unless_empty (not-aimed w.name.to client port b said is one two aim)))
 
 -- nor where there is room everywhere
-pub cuts-nowhere : (kept k : ℕ) (s t : DeskState) (x : StepsFirst k s t) → AllKnowRoom (kept + 1) s.side.ways → SameCuts s.side.ways t.side.ways
+pub cuts-nowhere : (kept k : ℕ) (s t : DeskState) (x : StepsFirst k s t) → AllKnowRoom (kept + 1) s.side.ways
+    → SameCuts s.side.ways t.side.ways
 cuts-nowhere kept k s t x room d w v was now =
     let r = x.ways.each d w was in
     let lists = unless_empty (list_for w.name.to x.said) in
@@ -65,14 +71,19 @@ first-is a b e f g first = cc (rw (g.2) at first)
 
 pub cuts-none : (kept k : ℕ) (s t : DeskState) (x : StepsFirst k s t) (client port : Option ℕ) (f : Event)
     → ((a : SeatState) → slice_get s.side.seats k ≡ Some a → slice_get a.known 0 ≡ Some f)
-    → ((b : law.Batch) → Holds s.recorded.settings (record { event = event_seen f; batch = b } ∷ turns s.recorded.kept) → IsAmong b.client client × IsAmong b.port port)
+    → ((b : law.Batch) → Holds s.recorded.settings (record { event = event_seen f; batch = b } ∷ turns s.recorded.kept)
+    → IsAmong b.client client × IsAmong b.port port)
     → HaveRoom kept client port s.side.ways → SameCuts s.side.ways t.side.ways
 cuts-none kept k s t x client port f front named room d w v was now =
     let seat = x.seats.there x.seat x.there in
     let same : x.event ≡ f = first-is x.seat seat.0 x.event f seat.2 (front x.seat x.there) in
-    let holds : Holds s.recorded.settings (record { event = event_seen f; batch = x.step.batch } ∷ turns s.recorded.kept) =
-    subst (λ (z : Event). Holds s.recorded.settings (record { event = event_seen z; batch = x.step.batch } ∷ turns s.recorded.kept)) same x.step.holds in
+    let holds : Holds s.recorded.settings (record { event = event_seen f; batch = x.step.batch } ∷ turns
+    s.recorded.kept) =
+    subst (λ (z : Event). Holds s.recorded.settings
+    (record { event = event_seen z; batch = x.step.batch } ∷ turns s.recorded.kept)) same x.step.holds in
     let among = named x.step.batch holds in
     let r = x.ways.each d w was in
-    let sent = subst (WaySent (unless_empty (list_for w.name.to x.said)) w) (get-same t.side.ways d r.0 v r.1 now) r.2 in
-    way-stays kept x.said client port x.step.batch w v x.step.says among.0 among.1 (λ aim. room d w was aim) sent (is_aimed client port w.name.to) refl
+    let sent = subst (WaySent (unless_empty (list_for w.name.to x.said)) w) (get-same t.side.ways d r.0 v r.1 now) r.2
+    in
+    way-stays kept x.said client port x.step.batch w v x.step.says among.0 among.1 (λ aim. room d w was aim) sent
+    (is_aimed client port w.name.to) refl

@@ -43,7 +43,8 @@ goes-nowhere r = record {
 pub more-twice : (a b c : List (List ℕ)) → IsMoreOf a b → IsMoreOf b c → IsMoreOf a c
 more-twice a b c p q = record {
   records = p.records ++ q.records;
-  same = q.same ∙ ap (λ (pages : List (List ℕ)). with_records pages q.records) p.same ∙ records-both a p.records q.records;
+  same = q.same ∙ ap (λ (pages : List (List ℕ)). with_records pages q.records) p.same
+      ∙ records-both a p.records q.records;
 }
 
 pub goes-further : (a b c : Recorded) → HistoryGoesOn a b → HistoryGoesOn b c → HistoryGoesOn a c
@@ -63,7 +64,8 @@ step-goes e said a b s = record {
 }
 
 -- what is told grows with the batches
-lists-grow : (to : Recipient) (a b : Recorded) (lists : _) → HistoryGoesOn a b → IsPrefix lists (lists_kept to a.kept) → IsPrefix lists (lists_kept to b.kept)
+lists-grow : (to : Recipient) (a b : Recorded) (lists : _) → HistoryGoesOn a b → IsPrefix lists (lists_kept to a.kept)
+    → IsPrefix lists (lists_kept to b.kept)
 lists-grow to a b lists g p =
     let more = g.batches.0 in
     let grown : lists_kept to b.kept ≡ lists_kept to a.kept ++ lists_to to more =
@@ -85,14 +87,16 @@ shrinks-more x y z p q = record {
 gave-shrinks : (e : Event) (a b : SeatState) → SeatGave e a b → SeatShrinks a b
 gave-shrinks e a b g = (
   g.0,
-  ap (λ (z : List Event). z ++ b.known) g.1 ∙ (append_assoc a.gave (e ∷ []) b.known ∙ ap (λ (z : List Event). a.gave ++ z) (sym g.2)),
+  ap (λ (z : List Event). z ++ b.known) g.1
+      ∙ (append_assoc a.gave (e ∷ []) b.known ∙ ap (λ (z : List Event). a.gave ++ z) (sym g.2)),
   omega (arith, ap length g.2),
 )
 
 pub pop-shrinks : (k : ℕ) (e : Event) (x y : List SeatState) → ChangesAt k (SeatGave e) x y → Shrinks x y
 pop-shrinks k e x y ch = record {
   count = ch.count;
-  each = each-change k (SeatGave e) SeatShrinks x y ch (λ a b at g. gave-shrinks e a b g) (λ a. (refl, refl, omega arith));
+  each = each-change k (SeatGave e) SeatShrinks x y ch (λ a b at g. gave-shrinks e a b g)
+      (λ a. (refl, refl, omega arith));
 }
 
 -- how much the seat knows after it gave one
@@ -112,7 +116,8 @@ none-stays k x y s none b at =
     omega (arith, a.2.2, none a.0 a.1)
 
 -- the ring of an end that has finished is one of the desk's
-pub told-inside : (f : Done) (seats : List SeatState) (ways : List WayState) (k : ℕ) → IsBorneOut f seats ways → inlet_of f ≡ Some k → k < length seats
+pub told-inside : (f : Done) (seats : List SeatState) (ways : List WayState) (k : ℕ) → IsBorneOut f seats ways
+    → inlet_of f ≡ Some k → k < length seats
 told-inside (put_at j source events) seats ways k told is =
     let same : j ≡ k = cc is in
     subst (λ (z : ℕ). z < length seats) same (slice_get_within seats j told.0 told.1)
@@ -120,10 +125,13 @@ told-inside (took_at d to lists) seats ways k told is = absurd (cc is)
 
 -- the rings of the first so many are empty
 abbrev pub FirstDrained : ℕ → List Done → List SeatState → Type 0
-FirstDrained n finished seats = (i : ℕ) (f : Done) (k : ℕ) → i < n → slice_get finished i ≡ Some f → inlet_of f ≡ Some k → KnowsNone k seats
+FirstDrained n finished seats = (i : ℕ) (f : Done) (k : ℕ) → i < n → slice_get finished i ≡ Some f → inlet_of f ≡ Some k
+    → KnowsNone k seats
 
-pub one-drained : (i : ℕ) (finished : List Done) (g : Done) (old new : List SeatState) → slice_get finished i ≡ Some g → Shrinks old new
-    → ((k : ℕ) → inlet_of g ≡ Some k → KnowsNone k new) → FirstDrained i finished old → FirstDrained (i + 1) finished new
+pub one-drained : (i : ℕ) (finished : List Done) (g : Done) (old new : List SeatState) → slice_get finished i ≡ Some g
+    → Shrinks old new
+    → ((k : ℕ) → inlet_of g ≡ Some k → KnowsNone k new) → FirstDrained i finished old
+    → FirstDrained (i + 1) finished new
 one-drained i finished g old new here shrinks none before j f k lt at is =
     elim (eqb_tells j i) [
       | inl q ↦ none k (ap inlet_of (get-same finished i g f here (rw (← q.1) at)) ∙ is)
@@ -136,7 +144,8 @@ looked-own : (a b : SeatState) → SeatLooked a b → SameOwn a b
 looked-own a b l = (l.0, ap (events_from a.name.source) l.1)
 
 -- looks at all rings keep what a desk keeps
-pub compares-agree : (inlets : List NamedInlet) (outlets : List NamedOutlet) (s t : DeskState) → Agrees inlets outlets s → t.recorded ≡ s.recorded
+pub compares-agree : (inlets : List NamedInlet) (outlets : List NamedOutlet) (s t : DeskState) → Agrees inlets outlets s
+    → t.recorded ≡ s.recorded
     → SeatsLooked s.side.seats t.side.seats → WaysLooked s.side.ways t.side.ways → Agrees inlets outlets t
 compares-agree inlets outlets s t h recorded seats ways =
     agrees-kept inlets outlets s t h recorded seats.count
@@ -144,27 +153,34 @@ compares-agree inlets outlets s t h recorded seats ways =
     ways.count (way-looks s.side.ways t.side.ways ways)
 
 -- what is settled once what finished inlets put is stepped
-settled : (inlets : List NamedInlet) (outlets : List NamedOutlet) (s t : DeskState) (f : Done) → Agrees inlets outlets s → Agrees inlets outlets t
+settled : (inlets : List NamedInlet) (outlets : List NamedOutlet) (s t : DeskState) (f : Done) → Agrees inlets outlets s
+    → Agrees inlets outlets t
     → HistoryGoesOn s.recorded t.recorded → Shrinks s.side.seats t.side.seats
-    → IsBorneOut f s.side.seats s.side.ways → ((k : ℕ) → inlet_of f ≡ Some k → KnowsNone k t.side.seats) → IsSettled f t.recorded.kept
+    → IsBorneOut f s.side.seats s.side.ways → ((k : ℕ) → inlet_of f ≡ Some k → KnowsNone k t.side.seats)
+    → IsSettled f t.recorded.kept
 settled inlets outlets s t (put_at k source events) before after on shrinks told none =
     let a = told.0 in
     let r = shrinks.each k a told.1 in
     let b = r.0 in
     let src : b.name.source ≡ source = ap (λ (n : NamedInlet). n.source) r.2.0 ∙ told.2 in
     let empty : b.known ≡ [] = empty-list b.known (none k refl b r.1) in
-    let gave : b.gave ≡ events = sym (append-nil b.gave) ∙ (ap (λ (z : List Event). b.gave ++ z) (sym empty) ∙ (r.2.1 ∙ told.3)) in
+    let gave : b.gave ≡ events = sym (append-nil b.gave)
+    ∙ (ap (λ (z : List Event). b.gave ++ z) (sym empty) ∙ (r.2.1 ∙ told.3)) in
     let from : events_from source t.recorded.kept.events ≡ events_from source b.gave =
     subst (λ (z : Source). events_from z t.recorded.kept.events ≡ events_from z b.gave) src (after.from_all k b r.1) in
     from ∙ (ap (events_from source) gave ∙ told.4)
 settled inlets outlets s t (took_at d to lists) before after on shrinks told none =
     let w = told.0 in
     let follows : IsPrefix w.sent (lists_kept w.name.to s.recorded.kept) = (before.to_all d w told.1).0 in
-    let old : IsPrefix lists (lists_kept w.name.to s.recorded.kept) = prefix-trans lists w.sent (lists_kept w.name.to s.recorded.kept) told.3 follows in
-    let begun : IsPrefix lists (lists_kept to t.recorded.kept) = lists-grow to s.recorded t.recorded lists on (subst (λ (z : Recipient). IsPrefix lists (lists_kept z s.recorded.kept)) told.2 old) in
+    let old : IsPrefix lists (lists_kept w.name.to s.recorded.kept) =
+    prefix-trans lists w.sent (lists_kept w.name.to s.recorded.kept) told.3 follows in
+    let begun : IsPrefix lists (lists_kept to t.recorded.kept) =
+    lists-grow to s.recorded t.recorded lists on
+    (subst (λ (z : Recipient). IsPrefix lists (lists_kept z s.recorded.kept)) told.2 old) in
     (begun, prefix-whole lists (lists_kept to t.recorded.kept) begun)
 
-pub all-settled : (inlets : List NamedInlet) (outlets : List NamedOutlet) (s t : DeskState) (finished : List Done) → Agrees inlets outlets s → Agrees inlets outlets t
+pub all-settled : (inlets : List NamedInlet) (outlets : List NamedOutlet) (s t : DeskState) (finished : List Done)
+    → Agrees inlets outlets s → Agrees inlets outlets t
     → HistoryGoesOn s.recorded t.recorded → Shrinks s.side.seats t.side.seats
     → AreTold finished s.side.seats s.side.ways → AreDrained finished t.side.seats → AreSettled finished t.recorded.kept
 all-settled inlets outlets s t finished before after on shrinks told drained i f at =
@@ -172,7 +188,8 @@ all-settled inlets outlets s t finished before after on shrinks told drained i f
 
 -- ---- one event more
 
-pub drained-agree : (inlets : List NamedInlet) (outlets : List NamedOutlet) (k : ℕ) (s t : DeskState) → (StepsFirst k s t ⊎ Drops k s t) → Agrees inlets outlets s → Agrees inlets outlets t
+pub drained-agree : (inlets : List NamedInlet) (outlets : List NamedOutlet) (k : ℕ) (s t : DeskState)
+    → (StepsFirst k s t ⊎ Drops k s t) → Agrees inlets outlets s → Agrees inlets outlets t
 drained-agree inlets outlets k s t (inl x) h = steps-agree inlets outlets k s t h x
 drained-agree inlets outlets k s t (inr x) h = drops-agree inlets outlets k s t h x
 
@@ -195,8 +212,10 @@ drained-less k n s t inside (inl x) knew = pop-less k n x.event s.side.seats t.s
 drained-less k n s t inside (inr x) knew = pop-less k n x.event s.side.seats t.side.seats inside x.seats knew
 
 -- what a call that was refused leaves
-pub same-agree : (inlets : List NamedInlet) (outlets : List NamedOutlet) (r q : Recorded) (s t : SideState) → q ≡ r → t ≡ s
-    → Agrees inlets outlets (record { recorded = r; side = s }) → Agrees inlets outlets (record { recorded = q; side = t })
+pub same-agree : (inlets : List NamedInlet) (outlets : List NamedOutlet) (r q : Recorded) (s t : SideState) → q ≡ r
+    → t ≡ s
+    → Agrees inlets outlets (record { recorded = r; side = s })
+    → Agrees inlets outlets (record { recorded = q; side = t })
 same-agree inlets outlets r q s t same like h =
     subst (λ (z : Recorded). Agrees inlets outlets (record { recorded = z; side = t })) (sym same)
     (subst (λ (z : SideState). Agrees inlets outlets (record { recorded = r; side = z })) (sym like) h)

@@ -29,23 +29,44 @@ stays : (r q : Recorded) → q ≡ r → HistoryGoesOn r q
 stays r q same = subst (HistoryGoesOn r) (sym same) (goes-nowhere r)
 
 does-on : (k : ℕ) (did : Did) (s t : DeskState) → Does k did s t → Onward s t
-does-on k Idle s t d = record { history = stays s.recorded t.recorded d.0.recorded; ways = looks-hold s.side.ways t.side.ways d.0.ways }
-does-on k Held s t d = record { history = stays s.recorded t.recorded d.0.recorded; ways = looks-hold s.side.ways t.side.ways d.0.ways }
-does-on k Refused s t d = record { history = stays s.recorded t.recorded d.0.recorded; ways = looks-hold s.side.ways t.side.ways d.0.ways }
+does-on k Idle s t d = record {
+  history = stays s.recorded t.recorded d.0.recorded;
+  ways =
+      looks-hold s.side.ways t.side.ways d.0.ways;
+}
+does-on k Held s t d = record {
+  history = stays s.recorded t.recorded d.0.recorded;
+  ways =
+      looks-hold s.side.ways t.side.ways d.0.ways;
+}
+does-on k Refused s t d = record {
+  history = stays s.recorded t.recorded d.0.recorded;
+  ways =
+      looks-hold s.side.ways t.side.ways d.0.ways;
+}
 does-on k Dropped s t d =
     onward-twice s d.0 t
-    (record { history = stays s.recorded d.0.recorded d.1.recorded; ways = looks-hold s.side.ways d.0.side.ways d.1.ways })
+    (record {
+      history = stays s.recorded d.0.recorded d.1.recorded;
+      ways =
+          looks-hold s.side.ways d.0.side.ways d.1.ways;
+    })
     (record { history = stays d.0.recorded t.recorded d.2.recorded; ways = drops-hold k d.0 t d.2 })
 does-on k Stepped s t d =
     let x : StepsFirst k d.0 t = d.2 in
     onward-twice s d.0 t
-    (record { history = stays s.recorded d.0.recorded d.1.recorded; ways = looks-hold s.side.ways d.0.side.ways d.1.ways })
+    (record {
+      history = stays s.recorded d.0.recorded d.1.recorded;
+      ways =
+          looks-hold s.side.ways d.0.side.ways d.1.ways;
+    })
     (record { history = step-goes x.event x.said d.0.recorded t.recorded x.step; ways = steps-hold k d.0 t x })
 
 went-on : (s : DeskState) (dids : List Did) (t : DeskState) → Went s dids t → Onward s t
 went-on s [] t w = subst (Onward s) (sym w) (nowhere s)
 went-on s (did ∷ dids) t w = onward-twice s w.0 t (went-on s dids w.0 w.1) (does-on (length dids) did w.0 t w.2)
 
-pub round-on : {E : Type 0} (result : Result Turned E) (s t : DeskState) → IfOk result (λ turned. Rounds turned s t) → OnErr result (RoundIsRefused s t) → Onward s t
+pub round-on : {E : Type 0} (result : Result Turned E) (s t : DeskState) → IfOk result (λ turned. Rounds turned s t)
+    → OnErr result (RoundIsRefused s t) → Onward s t
 round-on (Ok turned) s t ok err = went-on s ok.dids t ok.went
 round-on (Err e) s t ok err = went-on s err.dids t err.went

@@ -34,10 +34,20 @@ pub step-is : (e : Event) (said : Said) (batch : Batch) (settings : Settings) (k
     → IsKeptStep e said old (record { settings = settings; kept = more })
 step-is e said batch settings kept more old is events batches pages says holds =
     subst (λ (z : Recorded). IsKeptStep e said z (record { settings = settings; kept = more })) is
-    (record { batch = batch; settings = refl; events = events; batches = batches; pages = record { records = turn_records e batch; same = pages }; says = says; holds = holds })
+    (record {
+      batch = batch;
+      settings = refl;
+      events = events;
+      batches = batches;
+      pages =
+          record { records = turn_records e batch; same = pages };
+      says = says;
+      holds = holds;
+    })
 
 -- what is refused changes nothing
-pub same-recorded : (settings : Settings) (kept more : Kept) (old : Recorded) → record { settings = settings; kept = kept } ≡ old → more ≡ kept
+pub same-recorded : (settings : Settings) (kept more : Kept) (old : Recorded)
+    → record { settings = settings; kept = kept } ≡ old → more ≡ kept
     → record { settings = settings; kept = more } ≡ old
 same-recorded settings kept more old is same = ap (λ (k : Kept). record { settings = settings; kept = k }) same ∙ is
 

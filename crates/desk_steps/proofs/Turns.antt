@@ -37,7 +37,8 @@ first-some e a is = known-some e a.known is
 
 -- the first event at this place is of the inlet's source
 abbrev pub Owns : ℕ → List SeatState → Type 0
-Owns k seats = (a : SeatState) → slice_get seats k ≡ Some a → (f : Event) × (slice_get a.known 0 ≡ Some f) × (is_from a.name.source f ≡ true)
+Owns k seats = (a : SeatState) → slice_get seats k ≡ Some a
+    → (f : Event) × (slice_get a.known 0 ≡ Some f) × (is_from a.name.source f ≡ true)
 
 pub owns-same : (k : ℕ) (old new : List SeatState) → new ≡ old → Owns k old → Owns k new
 owns-same k old new same all = subst (λ (z : List SeatState). Owns k z) (sym same) all
@@ -46,24 +47,30 @@ same-first : (f e : Event) (a : SeatState) → IsFirst f a → IsFirst e a → f
 same-first f e a p q = cc (p, q)
 
 -- two that are the first there are the same
-pub firsts-same : (k : ℕ) (seats : List SeatState) (e f : Event) → k < length seats → At k seats (IsFirst e) → At k seats (IsFirst f) → e ≡ f
-firsts-same k seats e f inside one two = let a = get-inside seats k inside in same-first e f a.0 (one a.0 a.1) (two a.0 a.1)
+pub firsts-same : (k : ℕ) (seats : List SeatState) (e f : Event) → k < length seats → At k seats (IsFirst e)
+    → At k seats (IsFirst f) → e ≡ f
+firsts-same k seats e f inside one two = let a = get-inside seats k inside in
+    same-first e f a.0 (one a.0 a.1) (two a.0 a.1)
 
 -- seats that are the same
 pub at-same : (k : ℕ) (P : SeatState → Type 0) (old new : List SeatState) → new ≡ old → At k old P → At k new P
 at-same k P old new same all = subst (λ (z : List SeatState). At k z P) (sym same) all
 
 -- the first event is of the inlet's source
-pub own-first : (k : ℕ) (seats : List SeatState) (e : Event) (source : Source) → At k seats (IsFirst e) → At k seats (λ a. a.name.source ≡ source)
+pub own-first : (k : ℕ) (seats : List SeatState) (e : Event) (source : Source) → At k seats (IsFirst e)
+    → At k seats (λ a. a.name.source ≡ source)
     → is_from source e ≡ true
-    → (a : SeatState) → slice_get seats k ≡ Some a → (f : Event) × (slice_get a.known 0 ≡ Some f) × (is_from a.name.source f ≡ true)
-own-first k seats e source first is mine a at = (e, first a at, subst (λ (z : Source). is_from z e ≡ true) (sym (is a at)) mine)
+    → (a : SeatState) → slice_get seats k ≡ Some a
+    → (f : Event) × (slice_get a.known 0 ≡ Some f) × (is_from a.name.source f ≡ true)
+own-first k seats e source first is mine a at =
+    (e, first a at, subst (λ (z : Source). is_from z e ≡ true) (sym (is a at)) mine)
 
 -- a seat gave its first event
 pub gave-first : (a b : SeatState) (popped e : Event) → SeatGave popped a b → IsFirst e a → popped ≡ e
 gave-first a b popped e g first = cc (rw (g.2) at first)
 
-pub popped-first : (k : ℕ) (popped e : Event) (old new : List SeatState) → k < length old → At k old (IsFirst e) → ChangesAt k (SeatGave popped) old new
+pub popped-first : (k : ℕ) (popped e : Event) (old new : List SeatState) → k < length old → At k old (IsFirst e)
+    → ChangesAt k (SeatGave popped) old new
     → ChangesAt k (SeatGave e) old new
 popped-first k popped e old new inside first changes =
     let a = get-inside old k inside in
@@ -71,8 +78,10 @@ popped-first k popped e old new inside first changes =
     subst (λ (z : Event). ChangesAt k (SeatGave z) old new) (gave-first a.0 r.0 popped e r.2 (first a.0 a.1)) changes
 
 -- the first event of a ring is stepped
-pub stepped : (k : ℕ) (recorded after : Recorded) (one two three : SideState) (e popped : Event) (said : Said) → k < length one.seats
-    → ((a : SeatState) → slice_get one.seats k ≡ Some a → (f : Event) × (slice_get a.known 0 ≡ Some f) × (is_from a.name.source f ≡ true))
+pub stepped : (k : ℕ) (recorded after : Recorded) (one two three : SideState) (e popped : Event) (said : Said)
+    → k < length one.seats
+    → ((a : SeatState) → slice_get one.seats k ≡ Some a
+    → (f : Event) × (slice_get a.known 0 ≡ Some f) × (is_from a.name.source f ≡ true))
     → At k one.seats (IsFirst e) → IsKeptStep e said recorded after
     → ChangesAt k (SeatGave popped) one.seats two.seats → two.ways ≡ one.ways → SameCounts one two
     → three.seats ≡ two.seats → Tells said two.ways three.ways → SameCounts two three
@@ -88,13 +97,15 @@ stepped k recorded after one two three e popped said inside own first step pops 
       there = a.1;
       own = subst (λ (z : Event). is_from a.0.name.source z ≡ true) mine f.2;
       step = step;
-      seats = subst (λ (z : List SeatState). ChangesAt k (SeatGave e) one.seats z) (sym seats) (popped-first k popped e one.seats two.seats inside first pops);
+      seats = subst (λ (z : List SeatState). ChangesAt k (SeatGave e) one.seats z) (sym seats)
+          (popped-first k popped e one.seats two.seats inside first pops);
       ways = subst (λ (z : List WayState). Tells said z three.ways) ways tells;
       counts = (more.0 ∙ counts.0, more.1 ∙ counts.1);
     }
 
 -- the first event of a ring is dropped
-pub dropped : (k : ℕ) (recorded : Recorded) (one two : SideState) (e popped : Event) (source : Source) → k < length one.seats
+pub dropped : (k : ℕ) (recorded : Recorded) (one two : SideState) (e popped : Event) (source : Source)
+    → k < length one.seats
     → At k one.seats (IsFirst e) → At k one.seats (λ a. a.name.source ≡ source) → is_from source e ≡ false
     → ChangesAt k (SeatGave popped) one.seats two.seats → two.ways ≡ one.ways → SameCounts one two
     → Drops k (record { recorded = recorded; side = one }) (record { recorded = recorded; side = two })
@@ -112,10 +123,12 @@ dropped k recorded one two e popped source inside first is isnt pops ways counts
     }
 
 -- the first event of a ring waits
-pub waits : (k : ℕ) (recorded : Recorded) (side : SideState) (e : Event) (client port : _) (kept : ℕ) → k < length side.seats
+pub waits : (k : ℕ) (recorded : Recorded) (side : SideState) (e : Event) (client port : _) (kept : ℕ)
+    → k < length side.seats
     → At k side.seats (IsFirst e) → Owns k side.seats
     → client ≡ client_for recorded.settings (event_seen e) (lists recorded.settings (turns recorded.kept))
-    → port ≡ port_for recorded.settings (event_seen e) → kept ≡ kept_free (event_seen e) → LacksRoom kept client port side.ways
+    → port ≡ port_for recorded.settings (event_seen e) → kept ≡ kept_free (event_seen e)
+    → LacksRoom kept client port side.ways
     → Waits k (record { recorded = recorded; side = side })
 waits k recorded side e client port kept inside first own clients ports frees held =
     let a = get-inside side.seats k inside in
@@ -131,7 +144,8 @@ waits k recorded side e client port kept inside first own clients ports frees he
     }
 
 -- where there is room everywhere there is for these
-pub everywhere : (kept : ℕ) (client port : _) (ways : List WayState) → AllKnowRoom (kept + 1) ways → HaveRoom kept client port ways
+pub everywhere : (kept : ℕ) (client port : _) (ways : List WayState) → AllKnowRoom (kept + 1) ways
+    → HaveRoom kept client port ways
 everywhere kept client port ways all d w at aim =
     elim (all d w at) [
       | inl cut ↦ inl cut
@@ -139,10 +153,12 @@ everywhere kept client port ways all d w at aim =
     ]
 
 -- it has room
-pub has-room : (k : ℕ) (recorded : Recorded) (side : SideState) (e : Event) (client port : _) (kept : ℕ) → k < length side.seats
+pub has-room : (k : ℕ) (recorded : Recorded) (side : SideState) (e : Event) (client port : _) (kept : ℕ)
+    → k < length side.seats
     → At k side.seats (IsFirst e)
     → client ≡ client_for recorded.settings (event_seen e) (lists recorded.settings (turns recorded.kept))
-    → port ≡ port_for recorded.settings (event_seen e) → kept ≡ kept_free (event_seen e) → HaveRoom kept client port side.ways
+    → port ≡ port_for recorded.settings (event_seen e) → kept ≡ kept_free (event_seen e)
+    → HaveRoom kept client port side.ways
     → HasRoom k (record { recorded = recorded; side = side })
 has-room k recorded side e client port kept inside first clients ports frees room =
     let a = get-inside side.seats k inside in
@@ -155,7 +171,8 @@ has-room k recorded side e client port kept inside first clients ports frees roo
     }
 
 -- a look into a ring
-pub looked-in : (k : ℕ) (recorded : Recorded) (one two : SideState) → ChangesAt k SeatLooked one.seats two.seats → two.ways ≡ one.ways → SameCounts one two
+pub looked-in : (k : ℕ) (recorded : Recorded) (one two : SideState) → ChangesAt k SeatLooked one.seats two.seats
+    → two.ways ≡ one.ways → SameCounts one two
     → Looks k (record { recorded = recorded; side = one }) (record { recorded = recorded; side = two })
 looked-in k recorded one two seats ways counts = record {
   recorded = refl;
@@ -177,5 +194,6 @@ looked-out k recorded one two three looks seats ways counts = record {
 }
 
 -- a turn more
-pub went-more : (s m t : DeskState) (dids : List Did) (place : ℕ) (did : Did) → Went s dids m → length dids ≡ place → Does place did m t → Went s (did ∷ dids) t
+pub went-more : (s m t : DeskState) (dids : List Did) (place : ℕ) (did : Did) → Went s dids m → length dids ≡ place
+    → Does place did m t → Went s (did ∷ dids) t
 went-more s m t dids place did went len does = (m, went, subst (λ (k : ℕ). Does k did m t) (sym len) does)

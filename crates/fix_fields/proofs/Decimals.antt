@@ -32,26 +32,32 @@ one_digit n small = let d : n % 10 ≡ n = omega arith in rw d (decimal_digit n 
 pub two_digits : (n : ℕ) → 10 ≤ n → n < 100 → decimal n ≡ (48 + n / 10 % 10) ∷ (48 + n % 10) ∷ []
 two_digits n large small = rw (decimal_step n large (omega arith), one_digit (n / 10) (omega arith)) refl
 
-pub three_digits : (n : ℕ) → 100 ≤ n → n < 1000 → decimal n ≡ (48 + n / 100 % 10) ∷ (48 + n / 10 % 10) ∷ (48 + n % 10) ∷ []
+pub three_digits : (n : ℕ) → 100 ≤ n → n < 1000
+    → decimal n ≡ (48 + n / 100 % 10) ∷ (48 + n / 10 % 10) ∷ (48 + n % 10) ∷ []
 three_digits n large small =
     let d : n / 10 / 10 ≡ n / 100 = omega arith in
     rw (decimal_step n (omega arith) (omega arith), two_digits (n / 10) (omega arith) (omega arith), d) refl
 
 -- four, five and six
-pub four_digits : (n : ℕ) → 1000 ≤ n → n < 10_000 → decimal n ≡ (48 + n / 1000 % 10) ∷ (48 + n / 100 % 10) ∷ (48 + n / 10 % 10) ∷ (48 + n % 10) ∷ []
+pub four_digits : (n : ℕ) → 1000 ≤ n → n < 10_000
+    → decimal n ≡ (48 + n / 1000 % 10) ∷ (48 + n / 100 % 10) ∷ (48 + n / 10 % 10) ∷ (48 + n % 10) ∷ []
 four_digits n large small =
     let c : n / 10 / 10 ≡ n / 100 = omega arith in
     let d : n / 10 / 100 ≡ n / 1000 = omega arith in
     rw (decimal_step n (omega arith) (omega arith), three_digits (n / 10) (omega arith) (omega arith), c, d) refl
 
-pub five_digits : (n : ℕ) → 10_000 ≤ n → n < 100_000 → decimal n ≡ (48 + n / 10_000 % 10) ∷ (48 + n / 1000 % 10) ∷ (48 + n / 100 % 10) ∷ (48 + n / 10 % 10) ∷ (48 + n % 10) ∷ []
+pub five_digits : (n : ℕ) → 10_000 ≤ n → n < 100_000
+    → decimal n ≡ (48 + n / 10_000 % 10) ∷ (48 + n / 1000 % 10) ∷ (48 + n / 100 % 10) ∷ (48 + n / 10 % 10) ∷
+    (48 + n % 10) ∷ []
 five_digits n large small =
     let b : n / 10 / 10 ≡ n / 100 = omega arith in
     let c : n / 10 / 100 ≡ n / 1000 = omega arith in
     let d : n / 10 / 1000 ≡ n / 10_000 = omega arith in
     rw (decimal_step n (omega arith) (omega arith), four_digits (n / 10) (omega arith) (omega arith), b, c, d) refl
 
-pub six_digits : (n : ℕ) → 100_000 ≤ n → n < 1_000_000 → decimal n ≡ (48 + n / 100_000 % 10) ∷ (48 + n / 10_000 % 10) ∷ (48 + n / 1000 % 10) ∷ (48 + n / 100 % 10) ∷ (48 + n / 10 % 10) ∷ (48 + n % 10) ∷ []
+pub six_digits : (n : ℕ) → 100_000 ≤ n → n < 1_000_000
+    → decimal n ≡ (48 + n / 100_000 % 10) ∷ (48 + n / 10_000 % 10) ∷ (48 + n / 1000 % 10) ∷ (48 + n / 100 % 10) ∷
+    (48 + n / 10 % 10) ∷ (48 + n % 10) ∷ []
 six_digits n large small =
     let a : n / 10 / 10 ≡ n / 100 = omega arith in
     let b : n / 10 / 100 ≡ n / 1000 = omega arith in

@@ -23,13 +23,18 @@ pub printed-is : (text : List ℕ) (fs : List Field) → AreFields fs → fields
 unfolding prints_fields fields_in
 printed-is text fs good e =
     let found = fields_of-is text fs good e in
-    record { prints = ap (λ (o : Option (List Field)). is_some o) found; same = ap (λ (o : Option (List Field)). unwrap_or o []) found }
+    record {
+      prints = ap (λ (o : Option (List Field)). is_some o) found;
+      same =
+          ap (λ (o : Option (List Field)). unwrap_or o []) found;
+    }
 
 pub printed-none : IsPrinted [] []
 printed-none = printed-is [] [] refl refl
 
 -- texts one behind another are the fields of both
-pub printed-both : (text more : List ℕ) → PrintsFields text → PrintsFields more → IsPrinted (text ++ more) (fields_in text ++ fields_in more)
+pub printed-both : (text more : List ℕ) → PrintsFields text → PrintsFields more
+    → IsPrinted (text ++ more) (fields_in text ++ fields_in more)
 printed-both text more is also =
     let a = spelled-in text is in
     let b = spelled-in more also in
@@ -38,10 +43,13 @@ printed-both text more is also =
     (flat_map-append field_text (fields_in text) (fields_in more) ∙ rw (a.spelled, b.spelled) refl)
 
 -- a field behind a text
-pub printed-field : (text digits value : List ℕ) (tag : ℕ) → PrintsFields text → digits ≡ decimal tag → 1 ≤ tag → tag ≤ 999_999_999 → list_all is_inside value ≡ true
-    → IsPrinted (text ++ (digits ++ 61 ∷ (value ++ 1 ∷ []))) (fields_in text ++ record { tag = tag; value = value } ∷ [])
+pub printed-field : (text digits value : List ℕ) (tag : ℕ) → PrintsFields text → digits ≡ decimal tag → 1 ≤ tag
+    → tag ≤ 999_999_999 → list_all is_inside value ≡ true
+    → IsPrinted (text ++ (digits ++ 61 ∷ (value ++ 1 ∷ [])))
+    (fields_in text ++ record { tag = tag; value = value } ∷ [])
 printed-field text digits value tag is d low high inside =
     let f : Field = record { tag = tag; value = value } in
-    let one = printed-is (field_text f) (f ∷ []) (rw (le_test 1 tag low, le_test tag 999_999_999 high, inside) refl) (append-nil (field_text f)) in
+    let one = printed-is (field_text f) (f ∷ []) (rw (le_test 1 tag low, le_test tag 999_999_999 high, inside) refl)
+    (append-nil (field_text f)) in
     let both = printed-both text (field_text f) is one.prints in
     rw d (record { prints = both.prints; same = both.same ∙ ap (λ (fs : List Field). fields_in text ++ fs) one.same })

@@ -1,5 +1,6 @@
 -- A search that begins behind fields of other remainders.
-use Rattle.std.proofs.Common.{◌≡◌, ◌≢◌, ℕ, zero, suc, ◌+◌, ◌-◌, ◌≤◌, ◌<◌, ◌%◌, Bool, true, false, List, [], ◌∷◌, ◌++◌, length, take, drop, refl, sym, ap, ◌∙◌, arith, ◌==◌, get_or}
+use Rattle.std.proofs.Common.{◌≡◌, ◌≢◌, ℕ, zero, suc, ◌+◌, ◌-◌, ◌≤◌, ◌<◌, ◌%◌, Bool, true, false, List, [], ◌∷◌, ◌++◌}
+use Rattle.std.proofs.Common.{length, take, drop, refl, sym, ap, ◌∙◌, arith, ◌==◌, get_or}
 use Rattle.std.specs.Prelude.{Some, not, ◌&&◌, find, if◌then◌else◌}
 use Rattle.std.specs.List.{list_all}
 use Rattle.std.proofs.lemmas.Bool.Decides.{nat_tests}
@@ -23,15 +24,18 @@ other_tag tag span h = by_test (span.tag == tag) refl
     by_test false e = refl
     by_test true e = absurd (no (span.tag % 64 == tag % 64) (same span.tag tag (grind (arith, nat_tests))) h)
 
-pub passed_over : (tag : ℕ) (spans : List Span) (count : ℕ) → IsSkip spans (tag % 64) count → find (λ s. s.tag == tag) (drop count spans) ≡ find (λ s. s.tag == tag) spans
+pub passed_over : (tag : ℕ) (spans : List Span) (count : ℕ) → IsSkip spans (tag % 64) count
+    → find (λ s. s.tag == tag) (drop count spans) ≡ find (λ s. s.tag == tag) spans
 passed_over tag spans count skip = go spans count skip.elsewhere
   where
-    go : (spans : List Span) (count : ℕ) → list_all (is_elsewhere (tag % 64)) (take count spans) ≡ true → find (λ s. s.tag == tag) (drop count spans) ≡ find (λ s. s.tag == tag) spans
+    go : (spans : List Span) (count : ℕ) → list_all (is_elsewhere (tag % 64)) (take count spans) ≡ true
+        → find (λ s. s.tag == tag) (drop count spans) ≡ find (λ s. s.tag == tag) spans
     go spans zero h = refl
     go [] (suc count) h = refl
     go (span ∷ spans) (suc count) h =
         let both = and_parts (is_elsewhere (tag % 64) span) (list_all (is_elsewhere (tag % 64)) (take count spans)) h in
-        go spans count both.1 ∙ ap (λ (b : Bool). if b then Some span else find (λ s. s.tag == tag) spans) (sym (other_tag tag span both.0))
+        go spans count both.1 ∙ ap (λ (b : Bool). if b then Some span else find (λ s. s.tag == tag) spans)
+        (sym (other_tag tag span both.0))
 
 -- nothing is passed over
 pub nothing : (spans : List Span) (remainder count : ℕ) → count ≡ 0 → IsSkip spans remainder count
@@ -43,16 +47,20 @@ pub record SkipsFrom (at : ℕ) (spans : List Span) (remainder count : ℕ) : Ty
   pub within : count ≤ length spans
   pub elsewhere : list_all (is_elsewhere remainder) (take (count - at) (drop at spans)) ≡ true
 
-pub none_yet : (spans : List Span) (remainder at count : ℕ) → count ≡ at → at ≤ length spans → SkipsFrom at spans remainder count
-none_yet spans remainder at count e le = rw e (record { from = omega arith; within = le; elsewhere = empty (at - at) (omega arith) })
+pub none_yet : (spans : List Span) (remainder at count : ℕ) → count ≡ at → at ≤ length spans
+    → SkipsFrom at spans remainder count
+none_yet spans remainder at count e le = rw e
+    (record { from = omega arith; within = le; elsewhere = empty (at - at) (omega arith) })
   where
     empty : (n : ℕ) → n ≡ 0 → list_all (is_elsewhere remainder) (take n (drop at spans)) ≡ true
     empty n e = rw e refl
 
-pub from_first : (spans : List Span) (remainder at count : ℕ) → at ≡ 0 → SkipsFrom at spans remainder count → IsSkip spans remainder count
+pub from_first : (spans : List Span) (remainder at count : ℕ) → at ≡ 0 → SkipsFrom at spans remainder count
+    → IsSkip spans remainder count
 from_first spans remainder at count e skips = record {
   within = skips.within;
-  elsewhere = ap (λ n. list_all (is_elsewhere remainder) (take n spans)) (omega (arith, e)) ∙ ap (λ n. list_all (is_elsewhere remainder) (take (count - at) (drop n spans))) (sym e) ∙ skips.elsewhere;
+  elsewhere = ap (λ n. list_all (is_elsewhere remainder) (take n spans)) (omega (arith, e))
+      ∙ ap (λ n. list_all (is_elsewhere remainder) (take (count - at) (drop n spans))) (sym e) ∙ skips.elsewhere;
 }
 
 -- what is left of the list is searched
@@ -60,7 +68,8 @@ pub searched : (tag : ℕ) (spans : List Span) (behind count : ℕ) → behind �
     → find (λ s. s.tag == tag) (take (length spans - behind) (drop behind spans)) ≡ find (λ s. s.tag == tag) spans
 searched tag spans behind count e skip =
     ap (λ k. find (λ s. s.tag == tag) (take (length spans - k) (drop k spans))) e
-    ∙ ap (λ (l : List Span). find (λ s. s.tag == tag) l) (take_all (length spans - count) (drop count spans) (omega (arith, length-drop count spans)))
+    ∙ ap (λ (l : List Span). find (λ s. s.tag == tag) l)
+    (take_all (length spans - count) (drop count spans) (omega (arith, length-drop count spans)))
     ∙ passed_over tag spans count skip
 
 elsewhere : (n r : ℕ) → r ≢ n → not (n == r) ≡ true
@@ -70,38 +79,52 @@ both_true : {b c : Bool} → b ≡ true → c ≡ true → (b && c) ≡ true
 both_true e f = rw (e, f) refl
 
 -- a field more in front
-pub one_more : (spans : List Span) (remainder at count set : ℕ) (d : Span) → 0 < at → at ≤ length spans → SkipsFrom at spans remainder count
-    → (remainder ≡ (get_or spans (at - 1) d).tag % 64 → set ≡ at - 1) → (remainder ≢ (get_or spans (at - 1) d).tag % 64 → set ≡ count) → SkipsFrom (at - 1) spans remainder set
-one_more spans remainder at count set d low le skips same other = by_test (remainder == (get_or spans (at - 1) d).tag % 64) refl
+pub one_more : (spans : List Span) (remainder at count set : ℕ) (d : Span) → 0 < at → at ≤ length spans
+    → SkipsFrom at spans remainder count
+    → (remainder ≡ (get_or spans (at - 1) d).tag % 64 → set ≡ at - 1)
+    → (remainder ≢ (get_or spans (at - 1) d).tag % 64 → set ≡ count) → SkipsFrom (at - 1) spans remainder set
+one_more spans remainder at count set d low le skips same other =
+    by_test (remainder == (get_or spans (at - 1) d).tag % 64) refl
   where
-    by_test : (b : Bool) → (remainder == (get_or spans (at - 1) d).tag % 64) ≡ b → SkipsFrom (at - 1) spans remainder set
+    by_test : (b : Bool) → (remainder == (get_or spans (at - 1) d).tag % 64) ≡ b
+        → SkipsFrom (at - 1) spans remainder set
     by_test true e = none_yet spans remainder (at - 1) set (same (grind (arith, nat_tests))) (omega arith)
     by_test false e =
         let is : set ≡ count = other (grind (arith, nat_tests)) in
-        let next : drop (at - 1) spans ≡ get_or spans (at - 1) d ∷ drop (at - 1 + 1) spans = drop_more spans (at - 1) d (omega arith) in
+        let next : drop (at - 1) spans ≡ get_or spans (at - 1) d ∷ drop (at - 1 + 1) spans =
+        drop_more spans (at - 1) d (omega arith) in
         let back : at - 1 + 1 ≡ at = omega arith in
         let size : count - (at - 1) ≡ suc (count - at) = omega (arith, skips.from) in
         rw is (record {
           from = omega (arith, skips.from);
           within = skips.within;
-          elsewhere = ap (λ (l : List Span). list_all (is_elsewhere remainder) (take (count - (at - 1)) l)) (next ∙ ap (λ n. get_or spans (at - 1) d ∷ drop n spans) back)
+          elsewhere = ap (λ (l : List Span). list_all (is_elsewhere remainder) (take (count - (at - 1)) l))
+              (next ∙ ap (λ n. get_or spans (at - 1) d ∷ drop n spans) back)
               ∙ ap (λ n. list_all (is_elsewhere remainder) (take n (get_or spans (at - 1) d ∷ drop at spans))) size
-              ∙ both_true (elsewhere ((get_or spans (at - 1) d).tag % 64) remainder (grind (arith, nat_tests))) skips.elsewhere;
+              ∙ both_true (elsewhere ((get_or spans (at - 1) d).tag % 64) remainder (grind (arith, nat_tests)))
+              skips.elsewhere;
         })
 
 -- the same, at the place that the code computes
-pub one_more_at : (spans : List Span) (remainder at from count set : ℕ) (d : Span) → from ≡ at - 1 → 0 < at → at ≤ length spans → SkipsFrom at spans remainder count
-    → (remainder ≡ (get_or spans from d).tag % 64 → set ≡ at - 1) → (remainder ≢ (get_or spans from d).tag % 64 → set ≡ count) → SkipsFrom (at - 1) spans remainder set
+pub one_more_at : (spans : List Span) (remainder at from count set : ℕ) (d : Span) → from ≡ at - 1 → 0 < at
+    → at ≤ length spans → SkipsFrom at spans remainder count
+    → (remainder ≡ (get_or spans from d).tag % 64 → set ≡ at - 1)
+    → (remainder ≢ (get_or spans from d).tag % 64 → set ≡ count) → SkipsFrom (at - 1) spans remainder set
 one_more_at spans remainder at from count set d e low le skips same other =
-    let is : (get_or spans (at - 1) d).tag % 64 ≡ (get_or spans from d).tag % 64 = ap (λ n. (get_or spans n d).tag % 64) (sym e) in
+    let is : (get_or spans (at - 1) d).tag % 64 ≡ (get_or spans from d).tag % 64 =
+    ap (λ n. (get_or spans n d).tag % 64) (sym e) in
     one_more spans remainder at count set d low le skips (λ q. same (q ∙ is)) (λ q. other (λ w. q (w ∙ sym is)))
 
 -- fields behind others leave what may be passed over
-pub skip-append : (spans more : List Span) (remainder count : ℕ) → IsSkip spans remainder count → IsSkip (spans ++ more) remainder count
+pub skip-append : (spans more : List Span) (remainder count : ℕ) → IsSkip spans remainder count
+    → IsSkip (spans ++ more) remainder count
 skip-append spans more remainder count skip = record {
   within = omega (arith, skip.within, length-append spans more);
-  elsewhere = ap (λ (l : List Span). list_all (is_elsewhere remainder) l) (take-append-le count spans more skip.within) ∙ skip.elsewhere;
+  elsewhere = ap (λ (l : List Span). list_all (is_elsewhere remainder) l) (take-append-le count spans more skip.within)
+      ∙ skip.elsewhere;
 }
 
-pub skips-append : (skips : List ℕ) (spans room more all : List Span) → room ≡ spans → all ≡ room ++ more → AreSkips skips spans → AreSkips skips all
-skips-append skips spans room more all r a are = rw (a, r) (λ remainder small. skip-append spans more remainder _ (are remainder small))
+pub skips-append : (skips : List ℕ) (spans room more all : List Span) → room ≡ spans → all ≡ room ++ more
+    → AreSkips skips spans → AreSkips skips all
+skips-append skips spans room more all r a are =
+    rw (a, r) (λ remainder small. skip-append spans more remainder _ (are remainder small))

@@ -46,6 +46,8 @@ pub delivery-little : (s : State) (at : ℕ) (m : Message) (row : Row) → is_de
     → s.expected ≤ 10 ^ 18 → s.expected < 10 ^ 18
 delivery-little s at m row is answer low =
     let little = (logged-on-little s at m).expected in
-    let same : (answered (heard (at_moment at s)) (answer_by (logged_on_rows s m (message_number m) s.expected))).state.expected ≡ s.expected + 1 = ap (λ (a : Answer). (answered (heard (at_moment at s)) a).state.expected) (delivery-answer s m row is answer) in
+    let same : (answered (heard (at_moment at s))
+    (answer_by (logged_on_rows s m (message_number m) s.expected))).state.expected ≡ s.expected + 1 =
+    ap (λ (a : Answer). (answered (heard (at_moment at s)) a).state.expected) (delivery-answer s m row is answer) in
     let more = rw same at little in
     omega arith

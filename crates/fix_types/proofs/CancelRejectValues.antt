@@ -13,7 +13,8 @@ abbrev pub Has : ℕ → Option (List ℕ) → CancelReject → Type 0
 Has tag value m = first_value tag (cancel_reject_fields m) ≡ value
 
 -- of a tag that one slot alone has
-value_is : (tag : ℕ) (m : CancelReject) (value : Option (List ℕ)) → lookup tag (cancel_reject_slots m) ≡ option_or value None → Has tag value m
+value_is : (tag : ℕ) (m : CancelReject) (value : Option (List ℕ))
+    → lookup tag (cancel_reject_slots m) ≡ option_or value None → Has tag value m
 value_is tag m value e = value_in tag (cancel_reject_slots m) value e
 
 pub kind-value : (m : CancelReject) → Has 35 (Some (57 ∷ [])) m

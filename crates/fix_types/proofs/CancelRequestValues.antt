@@ -12,7 +12,8 @@ abbrev pub Has : ℕ → Option (List ℕ) → CancelRequest → Type 0
 Has tag value m = first_value tag (cancel_request_fields m) ≡ value
 
 -- of a tag that one slot alone has
-value_is : (tag : ℕ) (m : CancelRequest) (value : Option (List ℕ)) → lookup tag (cancel_request_slots m) ≡ option_or value None → Has tag value m
+value_is : (tag : ℕ) (m : CancelRequest) (value : Option (List ℕ))
+    → lookup tag (cancel_request_slots m) ≡ option_or value None → Has tag value m
 value_is tag m value e = value_in tag (cancel_request_slots m) value e
 
 pub kind-value : (m : CancelRequest) → Has 35 (Some (70 ∷ [])) m

@@ -12,7 +12,8 @@ abbrev pub Has : ℕ → Option (List ℕ) → NewOrder → Type 0
 Has tag value m = first_value tag (new_order_fields m) ≡ value
 
 -- of a tag that one slot alone has
-value_is : (tag : ℕ) (m : NewOrder) (value : Option (List ℕ)) → lookup tag (new_order_slots m) ≡ option_or value None → Has tag value m
+value_is : (tag : ℕ) (m : NewOrder) (value : Option (List ℕ)) → lookup tag (new_order_slots m) ≡ option_or value None
+    → Has tag value m
 value_is tag m value e = value_in tag (new_order_slots m) value e
 
 pub kind-value : (m : NewOrder) → Has 35 (Some (68 ∷ [])) m

@@ -13,7 +13,8 @@ abbrev pub Has : ℕ → Option (List ℕ) → Report → Type 0
 Has tag value m = first_value tag (report_fields m) ≡ value
 
 -- of a tag that one slot alone has
-value_is : (tag : ℕ) (m : Report) (value : Option (List ℕ)) → lookup tag (report_slots m) ≡ option_or value None → Has tag value m
+value_is : (tag : ℕ) (m : Report) (value : Option (List ℕ)) → lookup tag (report_slots m) ≡ option_or value None
+    → Has tag value m
 value_is tag m value e = value_in tag (report_slots m) value e
 
 pub kind-value : (m : Report) → Has 35 (Some (56 ∷ [])) m

@@ -16,7 +16,8 @@ use Rattle.fix_values.specs.declared.exec_type.ExecType.{ExecType}
 use Rattle.fix_values.specs.declared.exec_type.ExecType.TheVariants as kinds
 use Rattle.fix_values.specs.declared.ord_status.OrdStatus.{OrdStatus}
 use Rattle.fix_values.specs.declared.ord_status.OrdStatus.TheVariants as statuses
-use Rattle.fix_values.specs.Letters.{exec_letter, exec_type_of, status_letter, ord_status_of, response_letter, response_of}
+use Rattle.fix_values.specs.Letters.{exec_letter, exec_type_of, status_letter, ord_status_of, response_letter}
+use Rattle.fix_values.specs.Letters.{response_of}
 use Rattle.fix_values.specs.Formats.{passes, is_none_text}
 use Rattle.fix_values.specs.Slots.{char_text, number_text, order_id_text, order_id_of}
 use Rattle.fix_values.proofs.Numbers.{number_of-decimal, is_number-decimal}
@@ -33,7 +34,8 @@ pub passes-number_text : (n : Option ℕ) → IfSome n (λ k. k < 2 ^ 64) → pa
 passes-number_text None h = refl
 passes-number_text (Some n) h = is_number-decimal n h
 
-pub number-number_text : (n : Option ℕ) → IfSome n (λ k. k < 2 ^ 64) → option_map (λ text. number_of text) (number_text n) ≡ n
+pub number-number_text : (n : Option ℕ) → IfSome n (λ k. k < 2 ^ 64)
+    → option_map (λ text. number_of text) (number_text n) ≡ n
 number-number_text None h = refl
 number-number_text (Some n) h = ap (λ k. Some k) (number_of-decimal n h)
 
@@ -81,7 +83,8 @@ status_of-letter statuses.PendingCancel = refl
 status_of-letter statuses.Rejected = refl
 status_of-letter statuses.PendingReplace = refl
 
-pub passes-response_letter : (k : CxlRejResponseTo) → passes formats.CxlRejResponseTo (Some (response_letter k ∷ [])) ≡ true
+pub passes-response_letter : (k : CxlRejResponseTo)
+    → passes formats.CxlRejResponseTo (Some (response_letter k ∷ [])) ≡ true
 passes-response_letter responses.Cancel = refl
 passes-response_letter responses.Replace = refl
 
@@ -95,12 +98,14 @@ not_n d h = grind (arith, nat_tests)
 
 digits_not_none : (ds : List ℕ) → list_all is_ascii_digit ds ≡ true → is_none_text ds ≡ false
 digits_not_none [] h = refl
-digits_not_none (d ∷ ds) h = let p = and_parts (is_ascii_digit d) (list_all is_ascii_digit ds) h in rw (not_n d p.0) refl
+digits_not_none (d ∷ ds) h = let p = and_parts (is_ascii_digit d) (list_all is_ascii_digit ds) h in
+    rw (not_n d p.0) refl
 
 not_none-decimal : (n : ℕ) → n < 2 ^ 64 → is_none_text (decimal n) ≡ false
 not_none-decimal n h = digits_not_none (decimal n) (digits_decimal own n h)
 
-pub passes-order_id_text : (o : Option ℕ) → IfSome o (λ n. n < 2 ^ 64) → passes formats.OrderId (Some (order_id_text o)) ≡ true
+pub passes-order_id_text : (o : Option ℕ) → IfSome o (λ n. n < 2 ^ 64)
+    → passes formats.OrderId (Some (order_id_text o)) ≡ true
 passes-order_id_text None h = refl
 passes-order_id_text (Some n) h = rw (not_none-decimal n h, is_number-decimal n h) refl
 

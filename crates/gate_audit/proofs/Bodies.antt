@@ -11,8 +11,11 @@ pub same-first : (tag : ℕ) → is_header tag ≡ false → (m : Message) → f
 same-first tag apart [] = refl
 same-first tag apart (f ∷ fs) = by_header (is_header f.tag) refl (f.tag == tag) refl (same-first tag apart fs)
   where
-    by_header : (h : Bool) → is_header f.tag ≡ h → (b : Bool) → (f.tag == tag) ≡ b → first_value tag (body_of fs) ≡ first_value tag fs → first_value tag (body_of (f ∷ fs)) ≡ first_value tag (f ∷ fs)
-    by_header true is_h true is_b rest = (let x : true ≡ false = sym is_h ∙ (ap is_header (eqb-true f.tag tag is_b) ∙ apart) in cc)
+    by_header : (h : Bool) → is_header f.tag ≡ h → (b : Bool) → (f.tag == tag) ≡ b
+        → first_value tag (body_of fs) ≡ first_value tag fs
+        → first_value tag (body_of (f ∷ fs)) ≡ first_value tag (f ∷ fs)
+    by_header true is_h true is_b rest = (let x : true ≡ false = sym is_h
+        ∙ (ap is_header (eqb-true f.tag tag is_b) ∙ apart) in cc)
     by_header true is_h false is_b rest = rw (is_h, is_b) rest
     by_header false is_h true is_b rest = rw (is_h, is_b) refl
     by_header false is_h false is_b rest = rw (is_h, is_b) rest
@@ -22,7 +25,16 @@ same-report order r = rw (same-first 35 refl r, same-first 37 refl r) refl
 
 same-with : (x : Reading) (r : Message) → with_report x (body_of r) ≡ with_report x r
 same-with x r =
-    rw (same-first 150 refl r, same-first 151 refl r, same-first 32 refl r, same-first 31 refl r, same-first 17 refl r, same-first 19 refl r, same-first 54 refl r, same-first 38 refl r) refl
+    rw (
+      same-first 150 refl r,
+      same-first 151 refl r,
+      same-first 32 refl r,
+      same-first 31 refl r,
+      same-first 17 refl r,
+      same-first 19 refl r,
+      same-first 54 refl r,
+      same-first 38 refl r,
+    ) refl
 
 pub same-reading : (order : List ℕ) (rs : List Message) → reading order (map body_of rs) ≡ reading order rs
 same-reading order [] = refl
@@ -38,6 +50,7 @@ pub same-opened : (rs : List Message) → opened_in (map body_of rs) ≡ opened_
 same-opened [] = refl
 same-opened (r ∷ rs) = by_opens (opens_new_order r) refl (same-opened rs)
   where
-    by_opens : (b : Bool) → opens_new_order r ≡ b → opened_in (map body_of rs) ≡ opened_in rs → opened_in (map body_of (r ∷ rs)) ≡ opened_in (r ∷ rs)
+    by_opens : (b : Bool) → opens_new_order r ≡ b → opened_in (map body_of rs) ≡ opened_in rs
+        → opened_in (map body_of (r ∷ rs)) ≡ opened_in (r ∷ rs)
     by_opens true is rest = rw (same-opens r, is, same-opened_by r, rest) refl
     by_opens false is rest = rw (same-opens r, is, rest) refl

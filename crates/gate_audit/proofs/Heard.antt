@@ -15,7 +15,8 @@ one-reversed : (m : Option Outbound) → option_to_list m ≡ reverse (option_to
 one-reversed None = refl
 one-reversed (Some message) = refl
 
-pub heard-more : (terms : LoginTerms) (calls : List PortCall) (packet : Packet) (fault : Option PortFault) (turn : PortTurn) (m : Option Outbound) (earlier before after : List Outbound)
+pub heard-more : (terms : LoginTerms) (calls : List PortCall) (packet : Packet) (fault : Option PortFault)
+    (turn : PortTurn) (m : Option Outbound) (earlier before after : List Outbound)
     → IsAnswer (answer terms calls (OnPacket packet 0)) turn
     → m ≡ message_of (if turn.is_delivered then Some packet.payload else None) fault
     → before ≡ reverse earlier → after ≡ before ++ option_to_list m
@@ -26,4 +27,5 @@ heard-more terms calls packet fault turn m earlier before after is m_is before_i
     ∙ ap (λ (ms : List Outbound). reverse earlier ++ ms) (one-reversed m)
     ∙ sym (reverse-append (option_to_list m) earlier)
     ∙ ap (λ (x : Option Outbound). reverse (option_to_list x ++ earlier)) m_is
-    ∙ ap (λ (p : Option (List ℕ)). reverse (and_handled p fault earlier)) (sym (delivered-is terms calls packet 0 turn is))
+    ∙ ap (λ (p : Option (List ℕ)). reverse (and_handled p fault earlier))
+    (sym (delivered-is terms calls packet 0 turn is))

@@ -1,4 +1,5 @@
--- What the market's messages lead to, and what is refused, gives no token: no body of it is a report with 150=A or 150=E.
+-- What the market's messages lead to, and what is refused, gives no token: no body of it is a report with 150=A or
+-- 150=E.
 use Rattle.std.proofs.Common.{◌≡◌, ℕ, ◌+◌, Bool, true, false, List, [], ◌∷◌, refl, Option, Some, None}
 use Rattle.std.specs.Prelude.{Result, Ok, Err, if◌then◌else◌, is_some}
 use Rattle.order_accounts.specs.ouch_codec.declared.outbound.Outbound.{Outbound}
@@ -25,11 +26,13 @@ on-none : (order : List ℕ) (rs : List Message) → Each (IsOn order) rs → Ea
 on-none order [] on = tt
 on-none order (r ∷ rs) on = (on.0.gives_none, on-none order rs on.1)
 
-pub market-none : (terms : List Terms) (p : ℕ) (heard : Result Outbound DecodeRefusal) (before : OrderHistory) → Each GivesNone (told_by_market terms p heard before).bodies
+pub market-none : (terms : List Terms) (p : ℕ) (heard : Result Outbound DecodeRefusal) (before : OrderHistory)
+    → Each GivesNone (told_by_market terms p heard before).bodies
 market-none terms p (Err refusal) before = tt
 market-none terms p (Ok m) before = by_fault (is_some (judgement terms p (Ok m) before))
   where
-    of_bodies : (new : Entry) (rs : List Message) → Each GivesNone rs → Each GivesNone (told.told_of_entry new rs).bodies
+    of_bodies : (new : Entry) (rs : List Message) → Each GivesNone rs
+        → Each GivesNone (told.told_of_entry new rs).bodies
     of_bodies new [] none = tt
     of_bodies new (r ∷ rs) none = none
 
@@ -43,19 +46,23 @@ market-none terms p (Ok m) before = by_fault (is_some (judgement terms p (Ok m) 
         let rs = told_by (reports_in before) m l is_last fills s in
         of_bodies new rs (on-none s.order rs (told-on (reports_in before) m l is_last fills s))
 
-    by_fault : (b : Bool) → Each GivesNone (if b then told.nobody else told_on terms p m before (on_token terms p before (order_token m))).bodies
+    by_fault : (b : Bool) → Each GivesNone (if b then told.nobody else told_on terms p m before
+        (on_token terms p before (order_token m))).bodies
     by_fault true = tt
     by_fault false = by_order (on_token terms p before (order_token m))
 
 -- ---- a message that is refused
 
-pub refused-none : (terms : List Terms) (client : ℕ) (m : Message) (port : Port) (before : OrderHistory) (code : ℕ) (why : List ℕ) → Each GivesNone (told.told_by_verdict terms client m port before (Refused code why))
+pub refused-none : (terms : List Terms) (client : ℕ) (m : Message) (port : Port) (before : OrderHistory) (code : ℕ)
+    (why : List ℕ) → Each GivesNone (told.told_by_verdict terms client m port before (Refused code why))
 refused-none terms client m port before code why = by_new (is_new_order m)
   where
     by_shown : (x : Option Shown) → Each GivesNone (told.refused_request m x code why)
     by_shown None = (refl, tt)
     by_shown (Some s) = (refl, tt)
 
-    by_new : (b : Bool) → Each GivesNone (if b then told.refusing_report (reports_in before + 1) (orders_numbered before + 1) m code why ∷ [] else told.refused_request m (shown_in terms before (named (text 41 m) (issued client before))) code why)
+    by_new : (b : Bool) → Each GivesNone (if b then told.refusing_report (reports_in before + 1)
+        (orders_numbered before + 1) m code why ∷ [] else told.refused_request m
+        (shown_in terms before (named (text 41 m) (issued client before))) code why)
     by_new true = (refl, tt)
     by_new false = by_shown (shown_in terms before (named (text 41 m) (issued client before)))

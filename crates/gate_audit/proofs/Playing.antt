@@ -1,5 +1,6 @@
 -- A list of steps, one step more; and what markets have of the orders of one client more.
-use Rattle.std.proofs.Common.{◌≡◌, ℕ, ◌+◌, ◌<◌, ◌≤◌, Bool, true, List, [], ◌∷◌, ◌++◌, length, map, reverse, take, get_or, sym, ap, ◌∙◌, arith}
+use Rattle.std.proofs.Common.{◌≡◌, ℕ, ◌+◌, ◌<◌, ◌≤◌, Bool, true, List, [], ◌∷◌, ◌++◌, length, map, reverse, take}
+use Rattle.std.proofs.Common.{get_or, sym, ap, ◌∙◌, arith}
 use Rattle.std.proofs.lemmas.Bool.Decides.{nat_tests}
 use Rattle.std.specs.List.{All}
 use Rattle.std.specs.Prelude.{◌&&◌, nat_le}
@@ -30,7 +31,8 @@ steps-more steps i step inside is =
     ∙ ap (λ (xs : List world.WorldStep). reverse xs) (map-append step_seen (take i steps) (step ∷ []))
     ∙ reverse-append (map step_seen (take i steps)) (step_seen step ∷ [])
 
-pub books-more : (s : Settings) (x : World) (n port : ℕ) (kept : List BookRow) (openings : List OpenedOrder) (events : List Event) (batches : List Batch)
+pub books-more : (s : Settings) (x : World) (n port : ℕ) (kept : List BookRow) (openings : List OpenedOrder)
+    (events : List Event) (batches : List Batch)
     → length batches ≡ length events → history events batches ≡ x.history → port ≡ port_of s (n + 1)
     → openings ≡ reverse (opened_orders (reverse (said_by_batches batches))) → kept ≡ for_clients (books_of s x) n
     → kept ++ map (book_of x port) (orders_of (n + 1) openings) ≡ for_clients (books_of s x) (n + 1)
@@ -40,12 +42,15 @@ books-more s x n port kept openings events batches same is_history is_port are_o
     (ap (λ (p : ℕ). map (book_of x p) (orders_of (n + 1) openings)) is_port
     ∙ ap (λ (os : List OpenedOrder). map (book_of x (port_of s (n + 1))) (orders_of (n + 1) os)) are_openings
     ∙ sym (ap (map (book_of x (port_of s (n + 1))))
-    (ap (λ (h : History). reverse (orders_of (n + 1) (opened_orders (said_to_clients h)))) (sym is_history) ∙ orders-whole events batches (n + 1) same)))
+    (ap (λ (h : History). reverse (orders_of (n + 1) (opened_orders (said_to_clients h)))) (sym is_history)
+    ∙ orders-whole events batches (n + 1) same)))
     ∙ sym (for-more (books_of s x) n)
 
 both-true : (p n : ℕ) → 1 ≤ p → p ≤ n → (nat_le 1 p && nat_le p n) ≡ true
 both-true p n one few = grind (arith, nat_tests)
 
 -- each client has a port
-pub known-port : (s : Settings) → All (IsOnPort (length s.ports)) s.clients → (client : ℕ) → 1 ≤ client → client ≤ length s.clients → has_port s (port_of s client) ≡ true
-known-port s all client some known = let on = on-port s all client some known in both-true (port_of s client) (length s.ports) on.0 on.1
+pub known-port : (s : Settings) → All (IsOnPort (length s.ports)) s.clients → (client : ℕ) → 1 ≤ client
+    → client ≤ length s.clients → has_port s (port_of s client) ≡ true
+known-port s all client some known = let on = on-port s all client some known in
+    both-true (port_of s client) (length s.ports) on.0 on.1

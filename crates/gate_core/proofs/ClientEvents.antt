@@ -29,21 +29,28 @@ moved_link n (Comes link) links = link_set n (Some link) links
 moved_link n Goes links = link_set n None links
 moved_link n (Refused link) links = links
 
-client-moved-is : (c : ℕ) (move : LinkMove) (v : Lists) → client_moved c move v ≡ record v { client_link = moved_link c move v.client_link }
+client-moved-is : (c : ℕ) (move : LinkMove) (v : Lists)
+    → client_moved c move v ≡ record v { client_link = moved_link c move v.client_link }
 client-moved-is c Stays v = refl
 client-moved-is c (Comes link) v = refl
 client-moved-is c Goes v = refl
 client-moved-is c (Refused link) v = refl
 
-pub client-called-is : (c : ℕ) (calls : List Timed) (v : Lists) → client_called_all c calls v ≡ record v { client_calls = called_all c calls v.client_calls }
+pub client-called-is : (c : ℕ) (calls : List Timed) (v : Lists)
+    → client_called_all c calls v ≡ record v { client_calls = called_all c calls v.client_calls }
 client-called-is c [] v = refl
 client-called-is c (call ∷ calls) v = client-called-is c calls (client_called c call v)
 
 -- the lists with a client's calls and its link as it is then
 abbrev pub with_client : ℕ → LinkMove → List Timed → Lists → Lists
-with_client c move calls v = record v { client_link = moved_link c move v.client_link; client_calls = called_all c calls v.client_calls }
+with_client c move calls v = record v {
+  client_link = moved_link c move v.client_link;
+  client_calls =
+      called_all c calls v.client_calls;
+}
 
-with-client : (c : ℕ) (move : LinkMove) (calls : List Timed) (v : Lists) → with_outcome (of_client c move calls) v ≡ with_client c move calls v
+with-client : (c : ℕ) (move : LinkMove) (calls : List Timed) (v : Lists)
+    → with_outcome (of_client c move calls) v ≡ with_client c move calls v
 with-client c move calls v =
     ap (client_called_all c calls) (client-moved-is c move v)
     ∙ client-called-is c calls (record v { client_link = moved_link c move v.client_link })
@@ -51,7 +58,8 @@ with-client c move calls v =
 -- ---- what it asks
 
 -- where no port comes up and no message is sent
-pub asks-nothing : (s : Settings) (e : Event) (b : Batch) (v : Lists) → comes_up s e v ≡ false → messages b ≡ [] → Asks s e b v
+pub asks-nothing : (s : Settings) (e : Event) (b : Batch) (v : Lists) → comes_up s e v ≡ false → messages b ≡ []
+    → Asks s e b v
 asks-nothing s e b v quiet none = by_stepped (is_stepped s e v) (comes_up s e v) quiet
   where
     only : (w : Bool) → AsksOnlyThen w b
@@ -69,19 +77,22 @@ pub no-port-lines : (link : Option ℕ) → [] ≡ to_port link []
 no-port-lines None = refl
 no-port-lines (Some link) = refl
 
-pub client-event : {S H : Type 0} (s : Settings) (e : Event) (v : Lists) (g new : Parts S H) (c : ℕ) (move : LinkMove) (calls : List Timed) (outs : List LinkOut)
+pub client-event : {S H : Type 0} (s : Settings) (e : Event) (v : Lists) (g new : Parts S H) (c : ℕ) (move : LinkMove)
+    (calls : List Timed) (outs : List LinkOut)
     → outcome s e (batch_of c [] outs 0 [] None) v ≡ of_client c move calls
     → outs ≡ to_client_of s (of_client c move calls) v
     → [] ≡ reports_of s (of_client c move calls) v
     → comes_up s e v ≡ false
     → client_named e (batch_of c [] outs 0 [] None) ≡ c
-    → (calls_were : ℕ → List Timed) (links_were : ℕ → Option ℕ) → ArePartsOf s (record v { client_link = links_were; client_calls = calls_were }) g
+    → (calls_were : ℕ → List Timed) (links_were : ℕ → Option ℕ)
+    → ArePartsOf s (record v { client_link = links_were; client_calls = calls_were }) g
     → ClientsLeave s (called_all c calls v.client_calls) new.clients.lines.items
     → ClientLinks (unlinked c outs (moved_link c move v.client_link)) new.clients.lines.items
     → length new.clients.lines.items ≡ length g.clients.lines.items
     → new.ports ≡ g.ports → new.client_ports ≡ g.client_ports → new.orders ≡ g.orders
     → Stepped s e (batch_of c [] outs 0 [] None) v new
-client-event s e v g new c move calls outs is lines reports quiet named calls_were links_were parts leave links count same_ports same_client_ports same_orders =
+client-event s e v g new c move calls outs is lines reports quiet named calls_were links_were parts leave links count
+    same_ports same_client_ports same_orders =
     let b : Batch = batch_of c [] outs 0 [] None in
     let left : lists_after s e b v ≡ links_closed b (with_client c move calls v) =
     ap (λ (o : Outcome). links_closed b (with_outcome o v)) is ∙ ap (links_closed b) (with-client c move calls v) in
@@ -98,7 +109,8 @@ client-event s e v g new c move calls outs is lines reports quiet named calls_we
       orders = λ holds. subst (λ (w : Lists). Headline (terms s) w.turns) (sym left) holds;
       parts = subst (λ (w : Lists). ArePartsOf s w new) (sym left) (record {
         clients = leave;
-        client_links = λ i line at. links i line at ∙ sym (named-client c (i + 1) [] outs (moved_link c move v.client_link));
+        client_links = λ i line at. links i line at
+            ∙ sym (named-client c (i + 1) [] outs (moved_link c move v.client_link));
         ports = rw same_ports parts.ports;
         port_links = rw same_ports parts.port_links;
         orders = rw same_orders parts.orders;
@@ -111,7 +123,8 @@ client-event s e v g new c move calls outs is lines reports quiet named calls_we
 
 -- ---- an event that does nothing
 
-pub not-stepped-outcome : (s : Settings) (e : Event) (b : Batch) (v : Lists) → is_stepped s e v ≡ false → outcome s e b v ≡ nothing
+pub not-stepped-outcome : (s : Settings) (e : Event) (b : Batch) (v : Lists) → is_stepped s e v ≡ false
+    → outcome s e b v ≡ nothing
 not-stepped-outcome s e b v none = rw none refl
 
 pub no-client-lines : (s : Settings) (link : Option ℕ) → [] ≡ to_client s 0 link []
@@ -119,7 +132,8 @@ no-client-lines s None = refl
 no-client-lines s (Some link) = refl
 
 -- nothing is given, and nothing changes, where the outcome is nothing
-pub nothing-done : {S H : Type 0} (s : Settings) (e : Event) (v : Lists) (g : Parts S H) → outcome s e empty v ≡ nothing → Asks s e empty v → Ready s v g → Stepped s e empty v g
+pub nothing-done : {S H : Type 0} (s : Settings) (e : Event) (v : Lists) (g : Parts S H) → outcome s e empty v ≡ nothing
+    → Asks s e empty v → Ready s v g → Stepped s e empty v g
 nothing-done s e v g is asks ready =
     let left : lists_after s e empty v ≡ v = ap (λ (o : Outcome). links_closed empty (with_outcome o v)) is in
     record {
@@ -137,9 +151,12 @@ nothing-done s e v g is asks ready =
     }
 
 -- an event that isn't stepped
-pub not-stepped : {S H : Type 0} (s : Settings) (e : Event) (v : Lists) (g : Parts S H) → is_stepped s e v ≡ false → Ready s v g → Stepped s e empty v g
-not-stepped s e v g none ready = nothing-done s e v g (not-stepped-outcome s e empty v none) (by_stepped (is_stepped s e v) none) ready
+pub not-stepped : {S H : Type 0} (s : Settings) (e : Event) (v : Lists) (g : Parts S H) → is_stepped s e v ≡ false
+    → Ready s v g → Stepped s e empty v g
+not-stepped s e v g none ready = nothing-done s e v g (not-stepped-outcome s e empty v none)
+    (by_stepped (is_stepped s e v) none) ready
   where
-    by_stepped : (w : Bool) → w ≡ false → AsksAgain (w && comes_up s e v) s (port_in e) (w && delivers_message s e v) empty v
+    by_stepped : (w : Bool) → w ≡ false → AsksAgain (w && comes_up s e v) s (port_in e)
+        (w && delivers_message s e v) empty v
     by_stepped true is = absurd (cc)
     by_stepped false is = refl

@@ -22,18 +22,21 @@ use Rattle.gate_core.proofs.Told.{same}
 use Rattle.gate_core.proofs.ClientEvents.{client-event, nothing-done, asks-nothing}
 
 -- a link that is told nothing stays
-pub untold : (n : ℕ) (links : ℕ → Option ℕ) (lines : List ClientLine) → ClientLinks links lines → ClientLinks (unlinked n [] links) lines
+pub untold : (n : ℕ) (links : ℕ → Option ℕ) (lines : List ClientLine) → ClientLinks links lines
+    → ClientLinks (unlinked n [] links) lines
 untold n links lines are i line at = are i line at ∙ sym (same (i + 1 == n) (links (i + 1)))
 
 no-lines : (s : Settings) (c : ℕ) (link : Option ℕ) → [] ≡ to_client s c link []
 no-lines s c None = refl
 no-lines s c (Some link) = refl
 
-quiet-call : (s : Settings) (c at : ℕ) (is_up : Bool) (before : List Timed) → (client_answer s c before (at, OnLink is_up)).outs ≡ []
+quiet-call : (s : Settings) (c at : ℕ) (is_up : Bool) (before : List Timed)
+    → (client_answer s c before (at, OnLink is_up)).outs ≡ []
 unfolding client_answer
 quiet-call s c at is_up before = refl
 
-no-report : (s : Settings) (c at : ℕ) (is_up : Bool) (before : List Timed) → [] ≡ report_issued s c before (at, OnLink is_up)
+no-report : (s : Settings) (c at : ℕ) (is_up : Bool) (before : List Timed)
+    → [] ≡ report_issued s c before (at, OnLink is_up)
 unfolding report_issued
 no-report s c at is_up before = refl
 
@@ -45,7 +48,8 @@ append-none : {X : Type 0} (xs : List X) → [] ≡ xs → [] ≡ xs ++ []
 append-none xs is = rw (sym is) refl
 
 -- where one number's link stays, all do
-pub only-one : (n m : ℕ) (outs : List LinkOut) (links : ℕ → Option ℕ) → unless_closed outs (links n) ≡ links n → unlinked n outs links m ≡ links m
+pub only-one : (n m : ℕ) (outs : List LinkOut) (links : ℕ → Option ℕ) → unless_closed outs (links n) ≡ links n
+    → unlinked n outs links m ≡ links m
 only-one n m outs links is = by_test (m == n) refl
   where
     by_test : (b : Bool) → (m == n) ≡ b → (if b then unless_closed outs (links m) else links m) ≡ links m
@@ -61,7 +65,8 @@ not-equal m n other = by_test (m == n) refl
 
 -- ---- a client's link is gone
 
-pub client-gone : {S H : Type 0} (s : Settings) (v : Lists) (g new : Parts S H) (c link at : ℕ) → (has_client s c && is_the_number link (v.client_link c)) ≡ true → Ready s v g
+pub client-gone : {S H : Type 0} (s : Settings) (v : Lists) (g new : Parts S H) (c link at : ℕ)
+    → (has_client s c && is_the_number link (v.client_link c)) ≡ true → Ready s v g
     → ClientsLeave s (called c (at, OnLink false) v.client_calls) new.clients.lines.items
     → ClientLinks (link_set c None v.client_link) new.clients.lines.items
     → length new.clients.lines.items ≡ length g.clients.lines.items
@@ -71,13 +76,17 @@ client-gone s v g new c link at on ready leave links count same_ports same_clien
     let calls : List Timed = (at, OnLink false) ∷ [] in
     client-event s (ClientGone c link at) v g new c Goes calls [] (rw on refl)
     (no-lines s c (link_set c None v.client_link c)
-    ∙ ap (λ (outs : List Out). to_client s c (link_set c None v.client_link c) (outs ++ [])) (sym (quiet-call s c at false (v.client_calls c))))
+    ∙ ap (λ (outs : List Out). to_client s c (link_set c None v.client_link c) (outs ++ []))
+    (sym (quiet-call s c at false (v.client_calls c))))
     (append-none (report_issued s c (v.client_calls c) (at, OnLink false)) (no-report s c at false (v.client_calls c)))
-    refl refl v.client_calls v.client_link ready.parts leave (untold c (link_set c None v.client_link) new.clients.lines.items links) count same_ports same_client_ports same_orders
+    refl refl v.client_calls v.client_link ready.parts leave
+    (untold c (link_set c None v.client_link) new.clients.lines.items links) count same_ports same_client_ports
+    same_orders
 
 -- ---- a client's link is up
 
-pub client-comes : {S H : Type 0} (s : Settings) (v : Lists) (g new : Parts S H) (c link at : ℕ) → has_client s c ≡ true → v.client_link c ≡ None → Ready s v g
+pub client-comes : {S H : Type 0} (s : Settings) (v : Lists) (g new : Parts S H) (c link at : ℕ) → has_client s c ≡ true
+    → v.client_link c ≡ None → Ready s v g
     → ClientsLeave s (called c (at, OnLink true) v.client_calls) new.clients.lines.items
     → ClientLinks (link_set c (Some link) v.client_link) new.clients.lines.items
     → length new.clients.lines.items ≡ length g.clients.lines.items
@@ -87,22 +96,30 @@ client-comes s v g new c link at has none ready leave links count same_ports sam
     let calls : List Timed = (at, OnLink true) ∷ [] in
     client-event s (ClientUp c link at) v g new c (Comes link) calls [] (rw (has, none) refl)
     (no-lines s c (link_set c (Some link) v.client_link c)
-    ∙ ap (λ (outs : List Out). to_client s c (link_set c (Some link) v.client_link c) (outs ++ [])) (sym (quiet-call s c at true (v.client_calls c))))
+    ∙ ap (λ (outs : List Out). to_client s c (link_set c (Some link) v.client_link c) (outs ++ []))
+    (sym (quiet-call s c at true (v.client_calls c))))
     (append-none (report_issued s c (v.client_calls c) (at, OnLink true)) (no-report s c at true (v.client_calls c)))
-    refl refl v.client_calls v.client_link ready.parts leave (untold c (link_set c (Some link) v.client_link) new.clients.lines.items links) count same_ports same_client_ports same_orders
+    refl refl v.client_calls v.client_link ready.parts leave
+    (untold c (link_set c (Some link) v.client_link) new.clients.lines.items links) count same_ports
+    same_client_ports same_orders
 
 -- the current link's own number again
-pub client-again : {S H : Type 0} (s : Settings) (v : Lists) (g : Parts S H) (c link at current : ℕ) → has_client s c ≡ true → v.client_link c ≡ Some current → current ≡ link → Ready s v g
+pub client-again : {S H : Type 0} (s : Settings) (v : Lists) (g : Parts S H) (c link at current : ℕ)
+    → has_client s c ≡ true → v.client_link c ≡ Some current → current ≡ link → Ready s v g
     → Stepped s (ClientUp c link at) empty v g
 client-again s v g c link at current has is alike ready =
-    nothing-done s (ClientUp c link at) v g (rw (has, is, eq-eqb current link alike) refl) (asks-nothing s (ClientUp c link at) empty v refl refl) ready
+    nothing-done s (ClientUp c link at) v g (rw (has, is, eq-eqb current link alike) refl)
+    (asks-nothing s (ClientUp c link at) empty v refl refl) ready
 
 -- another link
-pub client-refused : {S H : Type 0} (s : Settings) (v : Lists) (g : Parts S H) (c link at current : ℕ) → has_client s c ≡ true → v.client_link c ≡ Some current → (current ≡ link → ⊥) → Ready s v g
+pub client-refused : {S H : Type 0} (s : Settings) (v : Lists) (g : Parts S H) (c link at current : ℕ)
+    → has_client s c ≡ true → v.client_link c ≡ Some current → (current ≡ link → ⊥) → Ready s v g
     → Stepped s (ClientUp c link at) (batch_of c [] (Close link ∷ []) 0 [] None) v g
 client-refused s v g c link at current has is other ready =
-    client-event s (ClientUp c link at) v g g c (Refused link) [] (Close link ∷ []) (rw (has, is, not-equal current link other) refl)
-    (ap (λ (outs : List LinkOut). Close link ∷ outs) (no-lines s c (v.client_link c))) refl refl refl v.client_calls v.client_link ready.parts ready.parts.clients
+    client-event s (ClientUp c link at) v g g c (Refused link) [] (Close link ∷ [])
+    (rw (has, is, not-equal current link other) refl)
+    (ap (λ (outs : List LinkOut). Close link ∷ outs) (no-lines s c (v.client_link c))) refl refl refl v.client_calls
+    v.client_link ready.parts ready.parts.clients
     (λ i line at_place. ready.parts.client_links i line at_place ∙ sym (stays (i + 1))) refl refl refl refl
   where
     -- the link that is closed isn't the current one
@@ -114,7 +131,8 @@ client-refused s v g c link at current has is other ready =
 
 -- ---- time passes
 
-pub client-tick : {S H : Type 0} (s : Settings) (v : Lists) (g new : Parts S H) (c at : ℕ) (outs : List LinkOut) → has_client s c ≡ true → Ready s v g
+pub client-tick : {S H : Type 0} (s : Settings) (v : Lists) (g new : Parts S H) (c at : ℕ) (outs : List LinkOut)
+    → has_client s c ≡ true → Ready s v g
     → outs ≡ to_client s c (v.client_link c) ((client_answer s c (v.client_calls c) (at, OnTick)).outs ++ [])
     → ClientsLeave s (called c (at, OnTick) v.client_calls) new.clients.lines.items
     → ClientLinks (unlinked c outs v.client_link) new.clients.lines.items
@@ -128,18 +146,23 @@ client-tick s v g new c at outs has ready lines leave links count same_ports sam
 
 -- ---- a frame of which nothing is delivered
 
-no-frame-report : (s : Settings) (c at : ℕ) (frame : Message) (before : List Timed) → [] ≡ report_issued s c before (at, OnMessage frame)
+no-frame-report : (s : Settings) (c at : ℕ) (frame : Message) (before : List Timed)
+    → [] ≡ report_issued s c before (at, OnMessage frame)
 unfolding report_issued
 no-frame-report s c at frame before = refl
 
-pub client-frame : {S H : Type 0} (s : Settings) (v : Lists) (g new : Parts S H) (c link at : ℕ) (frame : Message) (said : List SessionOut) (outs : List LinkOut)
+pub client-frame : {S H : Type 0} (s : Settings) (v : Lists) (g new : Parts S H) (c link at : ℕ) (frame : Message)
+    (said : List SessionOut) (outs : List LinkOut)
     → AfterFrame s c link at frame None said v g
     → outs ≡ to_client s c (v.client_link c) ((client_answer s c (v.client_calls c) (at, OnMessage frame)).outs ++ [])
     → ClientsLeave s (called c (at, OnMessage frame) v.client_calls) new.clients.lines.items
     → ClientLinks (unlinked c outs v.client_link) new.clients.lines.items
     → length new.clients.lines.items ≡ length g.clients.lines.items
-    → Stepped {S = S} {H = H} s (ClientMessage c link at frame) (batch_of c [] outs 0 [] None) v (record { clients = new.clients; ports = g.ports; client_ports = g.client_ports; orders = g.orders })
+    → Stepped {S = S} {H = H} s (ClientMessage c link at frame) (batch_of c [] outs 0 [] None) v
+    (record { clients = new.clients; ports = g.ports; client_ports = g.client_ports; orders = g.orders })
 client-frame s v g new c link at frame said outs heard lines leave links count =
-    client-event s (ClientMessage c link at frame) v g _ c Stays ((at, OnMessage frame) ∷ []) outs (rw (heard.on, heard.app_is) refl) lines
-    (append-none (report_issued s c (v.client_calls c) (at, OnMessage frame)) (no-frame-report s c at frame (v.client_calls c)))
+    client-event s (ClientMessage c link at frame) v g _ c Stays ((at, OnMessage frame) ∷ []) outs
+    (rw (heard.on, heard.app_is) refl) lines
+    (append-none (report_issued s c (v.client_calls c) (at, OnMessage frame))
+    (no-frame-report s c at frame (v.client_calls c)))
     refl refl (called c (at, OnMessage frame) v.client_calls) v.client_link heard.parts leave links count refl refl refl

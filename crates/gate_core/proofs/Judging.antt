@@ -20,14 +20,18 @@ use Rattle.gate_core.specs.Steps.{PayloadIsTold, heard_turn}
 
 -- the laws of gate_law on whom a payload is told to, as they are cited
 abbrev pub ToldNone : Type 0
-ToldNone = (ts : List orders.Terms) (before : orders.OrderHistory) (p : ℕ) (m : Result Outbound DecodeRefusal) (t : OrderTurn) → told ts (Heard p m) before ≡ said_in t → t.bodies ≡ [] → t.client ≡ 0
+ToldNone = (ts : List orders.Terms) (before : orders.OrderHistory) (p : ℕ) (m : Result Outbound DecodeRefusal)
+    (t : OrderTurn) → told ts (Heard p m) before ≡ said_in t → t.bodies ≡ [] → t.client ≡ 0
 
 abbrev pub ToldSome : Type 0
-ToldSome = (ts : List orders.Terms) (is_ours : ℕ → Bool) (before : orders.OrderHistory) (p : ℕ) (m : Result Outbound DecodeRefusal) (t : OrderTurn)
-    → AreFrom (λ (client : ℕ). is_ours client ≡ true) before → told ts (Heard p m) before ≡ said_in t → (t.bodies ≡ [] → ⊥) → is_ours t.client ≡ true
+ToldSome = (ts : List orders.Terms) (is_ours : ℕ → Bool) (before : orders.OrderHistory) (p : ℕ)
+    (m : Result Outbound DecodeRefusal) (t : OrderTurn)
+    → AreFrom (λ (client : ℕ). is_ours client ≡ true) before → told ts (Heard p m) before ≡ said_in t
+    → (t.bodies ≡ [] → ⊥) → is_ours t.client ≡ true
 
 -- a turn of which it is known how it came about
-module _ {S H : Type 0} (s : Settings) (p n : ℕ) (payload : List ℕ) (bodies : List Message) (v : Lists) (g new : Parts S H)
+module _ {S H : Type 0} (s : Settings) (p n : ℕ) (payload : List ℕ) (bodies : List Message) (v : Lists)
+    (g new : Parts S H)
     (none : ToldNone) (some : ToldSome) (parts : ArePartsOf s v g)
     (after : IsAfterTurns (terms s) (heard_turn p payload n bodies None ∷ v.turns) new.orders)
     (headline : Headline (terms s) (heard_turn p payload n bodies None ∷ v.turns))
@@ -49,7 +53,8 @@ module _ {S H : Type 0} (s : Settings) (p n : ℕ) (payload : List ℕ) (bodies 
       by_bodies [] is = refl
       by_bodies (x ∷ xs) is =
           let has : has_client s n ≡ true = has-client (λ e. (let wrong : x ∷ xs ≡ [] = sym is ∙ e in cc)) in
-          let hasnt : has_client s n ≡ false = ap (λ (k : ℕ). nat_le 1 n && nat_le n k) (sym parts.client_count) ∙ unknown in
+          let hasnt : has_client s n ≡ false = ap (λ (k : ℕ). nat_le 1 n && nat_le n k) (sym parts.client_count)
+          ∙ unknown in
           absurd (let clash : true ≡ false = sym has ∙ hasnt in cc)
 
   told-parts : (m : ℕ) → n ≡ m → ArePartsOf s (turned (Some (heard_turn p payload m bodies None)) v) new
@@ -58,19 +63,23 @@ module _ {S H : Type 0} (s : Settings) (p n : ℕ) (payload : List ℕ) (bodies 
     client_links = rw same_clients parts.client_links;
     ports = rw same_ports parts.ports;
     port_links = rw same_ports parts.port_links;
-    orders = subst (λ (k : ℕ). IsAfterTurns (terms s) (heard_turn p payload k bodies None ∷ v.turns) new.orders) is after;
+    orders = subst (λ (k : ℕ). IsAfterTurns (terms s) (heard_turn p payload k bodies None ∷ v.turns) new.orders) is
+        after;
     client_ports = rw same_client_ports parts.client_ports;
     client_count = rw same_clients parts.client_count;
     port_count = rw same_ports parts.port_count;
     known = (tt, parts.known);
   }
 
-  pub judged : (place : Option ℕ) → is_some place ≡ (nat_le 1 n && nat_le n (length g.clients.lines.items)) → IfSome place (λ (q : ℕ). (n ≡ q + 1) × (q < length g.clients.lines.items)) → PayloadIsTold s p payload place bodies v new
+  pub judged : (place : Option ℕ) → is_some place ≡ (nat_le 1 n && nat_le n (length g.clients.lines.items))
+      → IfSome place (λ (q : ℕ). (n ≡ q + 1) × (q < length g.clients.lines.items))
+      → PayloadIsTold s p payload place bodies v new
   judged None known at_place =
       let is : bodies ≡ [] = none-told (sym known) in
       record {
         parts = told-parts 0 (no-client is);
-        headline = subst (λ (k : ℕ). Headline (terms s) (heard_turn p payload k bodies None ∷ v.turns)) (no-client is) headline;
+        headline = subst (λ (k : ℕ). Headline (terms s) (heard_turn p payload k bodies None ∷ v.turns))
+            (no-client is) headline;
         nobody = λ e. is;
         nothing = λ e. refl;
       }

@@ -15,8 +15,10 @@ use Rattle.gate_law.specs.Events.{LinkOut}
 use Rattle.gate_core.proofs.ClientEvents.{client-called-is}
 use Rattle.gate_core.proofs.Told.{nothing-on-port}
 
-pub clients-parts : {S H : Type 0} (s : Settings) (c : ℕ) (calls : List Timed) (v : Lists) (g new : Parts S H) → ArePartsOf s v g
-    → ClientsLeave s (called_all c calls v.client_calls) new.clients.lines.items → ClientLinks v.client_link new.clients.lines.items → length new.clients.lines.items ≡ length g.clients.lines.items
+pub clients-parts : {S H : Type 0} (s : Settings) (c : ℕ) (calls : List Timed) (v : Lists) (g new : Parts S H)
+    → ArePartsOf s v g
+    → ClientsLeave s (called_all c calls v.client_calls) new.clients.lines.items
+    → ClientLinks v.client_link new.clients.lines.items → length new.clients.lines.items ≡ length g.clients.lines.items
     → new.ports ≡ g.ports → new.client_ports ≡ g.client_ports → new.orders ≡ g.orders
     → ArePartsOf s (client_called_all c calls v) new
 clients-parts s c calls v g new parts leave links count same_ports same_client_ports same_orders =
@@ -32,12 +34,15 @@ clients-parts s c calls v g new parts leave links count same_ports same_client_p
       known = parts.known;
     })
 
-pub port-called-is : (p : ℕ) (calls : List PortCall) (v : Lists) → port_called_all p calls v ≡ record v { port_calls = called_all p calls v.port_calls }
+pub port-called-is : (p : ℕ) (calls : List PortCall) (v : Lists)
+    → port_called_all p calls v ≡ record v { port_calls = called_all p calls v.port_calls }
 port-called-is p [] v = refl
 port-called-is p (call ∷ calls) v = port-called-is p calls (port_called p call v)
 
-pub ports-parts : {S H : Type 0} (s : Settings) (p : ℕ) (calls : List PortCall) (v : Lists) (g new : Parts S H) → ArePartsOf s v g
-    → PortsLeave s (called_all p calls v.port_calls) new.ports.lines.items → PortLinks v.port_link new.ports.lines.items → length new.ports.lines.items ≡ length g.ports.lines.items
+pub ports-parts : {S H : Type 0} (s : Settings) (p : ℕ) (calls : List PortCall) (v : Lists) (g new : Parts S H)
+    → ArePartsOf s v g
+    → PortsLeave s (called_all p calls v.port_calls) new.ports.lines.items → PortLinks v.port_link new.ports.lines.items
+    → length new.ports.lines.items ≡ length g.ports.lines.items
     → new.clients ≡ g.clients → new.client_ports ≡ g.client_ports → new.orders ≡ g.orders
     → ArePartsOf s (port_called_all p calls v) new
 ports-parts s p calls v g new parts leave links count same_clients same_client_ports same_orders =
@@ -62,6 +67,8 @@ not-up Up other = absurd (other refl)
 not-up Ended other = refl
 not-up (Faulted n) other = refl
 
-pub unsent : {S H : Type 0} (s : Settings) (p at : ℕ) (messages : List (List ℕ)) (outs : List LinkOut) (v : Lists) (g : Parts S H) → ArePartsOf s v g → messages ≡ [] → outs ≡ [] → IsSent s p at messages outs v g
+pub unsent : {S H : Type 0} (s : Settings) (p at : ℕ) (messages : List (List ℕ)) (outs : List LinkOut) (v : Lists)
+    (g : Parts S H) → ArePartsOf s v g → messages ≡ [] → outs ≡ [] → IsSent s p at messages outs v g
 unsent s p at messages outs v g parts none quiet =
-    subst (λ (ms : List (List ℕ)). IsSent s p at ms outs v g) (sym none) (record { parts = parts; outs_are = quiet ∙ nothing-on-port (v.port_link p) })
+    subst (λ (ms : List (List ℕ)). IsSent s p at ms outs v g) (sym none)
+    (record { parts = parts; outs_are = quiet ∙ nothing-on-port (v.port_link p) })

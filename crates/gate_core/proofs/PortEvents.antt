@@ -23,7 +23,8 @@ use Rattle.gate_core.proofs.ClientEvents.{moved_link, no-client-lines}
 
 -- ---- the lists after it
 
-port-moved-is : (p : ℕ) (move : LinkMove) (v : Lists) → port_moved p move v ≡ record v { port_link = moved_link p move v.port_link }
+port-moved-is : (p : ℕ) (move : LinkMove) (v : Lists)
+    → port_moved p move v ≡ record v { port_link = moved_link p move v.port_link }
 port-moved-is p Stays v = refl
 port-moved-is p (Comes link) v = refl
 port-moved-is p Goes v = refl
@@ -31,17 +32,24 @@ port-moved-is p (Refused link) v = refl
 
 -- the lists with a port's calls and its link as it is then
 abbrev with_port : ℕ → LinkMove → List PortCall → Lists → Lists
-with_port p move calls v = record v { port_link = moved_link p move v.port_link; port_calls = called_all p calls v.port_calls }
+with_port p move calls v = record v {
+  port_link = moved_link p move v.port_link;
+  port_calls =
+      called_all p calls v.port_calls;
+}
 
 -- the parts are what the lists with a port's calls leave, each list by itself
-pub with-calls : {S H : Type 0} (s : Settings) (p : ℕ) (calls : List PortCall) (v : Lists) (g : Parts S H) → ArePartsOf s (port_called_all p calls v) g → ArePartsOf s (record v { port_calls = called_all p calls v.port_calls }) g
+pub with-calls : {S H : Type 0} (s : Settings) (p : ℕ) (calls : List PortCall) (v : Lists) (g : Parts S H)
+    → ArePartsOf s (port_called_all p calls v) g
+    → ArePartsOf s (record v { port_calls = called_all p calls v.port_calls }) g
 with-calls s p calls v g parts = subst (λ (w : Lists). ArePartsOf s w g) (port-called-is p calls v) parts
 
 -- calls of a port, and a fault that is its session's
 abbrev pub by_port : ℕ → LinkMove → List PortCall → Option PortFault → Outcome
 by_port p move calls fault = record (of_port p move calls) { fault = fault }
 
-with-port : (p : ℕ) (move : LinkMove) (calls : List PortCall) (fault : Option PortFault) (v : Lists) → with_outcome (by_port p move calls fault) v ≡ with_port p move calls v
+with-port : (p : ℕ) (move : LinkMove) (calls : List PortCall) (fault : Option PortFault) (v : Lists)
+    → with_outcome (by_port p move calls fault) v ≡ with_port p move calls v
 with-port p move calls fault v =
     ap (port_called_all p calls) (port-moved-is p move v)
     ∙ port-called-is p calls (record v { port_link = moved_link p move v.port_link })
@@ -49,7 +57,8 @@ with-port p move calls fault v =
 -- ---- the step
 
 -- some of the port's calls were made earlier
-pub port-event : {S H : Type 0} (s : Settings) (e : Event) (v : Lists) (g new : Parts S H) (p : ℕ) (move : LinkMove) (calls : List PortCall) (fault : Option PortFault) (outs : List LinkOut)
+pub port-event : {S H : Type 0} (s : Settings) (e : Event) (v : Lists) (g new : Parts S H) (p : ℕ) (move : LinkMove)
+    (calls : List PortCall) (fault : Option PortFault) (outs : List LinkOut)
     → outcome s e (batch_of 0 [] [] p outs fault) v ≡ by_port p move calls fault
     → outs ≡ to_port_of s (by_port p move calls fault) v
     → Asks s e (batch_of 0 [] [] p outs fault) v
@@ -60,7 +69,8 @@ pub port-event : {S H : Type 0} (s : Settings) (e : Event) (v : Lists) (g new : 
     → length new.ports.lines.items ≡ length g.ports.lines.items
     → new.clients ≡ g.clients → new.client_ports ≡ g.client_ports → new.orders ≡ g.orders
     → Stepped s e (batch_of 0 [] [] p outs fault) v new
-port-event s e v g new p move calls fault outs is lines asks named earlier parts leave links count same_clients same_client_ports same_orders =
+port-event s e v g new p move calls fault outs is lines asks named earlier parts leave links count same_clients
+    same_client_ports same_orders =
     let b : Batch = batch_of 0 [] [] p outs fault in
     let before = with-calls s p earlier v g parts in
     let left : lists_after s e b v ≡ links_closed b (with_port p move calls v) =
@@ -80,7 +90,8 @@ port-event s e v g new p move calls fault outs is lines asks named earlier parts
         clients = rw same_clients before.clients;
         client_links = rw same_clients before.client_links;
         ports = leave;
-        port_links = λ i line at. links i line at ∙ sym (named-port p (i + 1) (not (is_some fault)) outs (moved_link p move v.port_link));
+        port_links = λ i line at. links i line at
+            ∙ sym (named-port p (i + 1) (not (is_some fault)) outs (moved_link p move v.port_link));
         orders = rw same_orders before.orders;
         client_ports = rw same_client_ports before.client_ports;
         client_count = rw same_clients before.client_count;
@@ -90,10 +101,12 @@ port-event s e v g new p move calls fault outs is lines asks named earlier parts
     }
 
 -- lines of ports that are as many, and want so many packets more
-pub packets-grow : {S H : Type 0} (packets : ℕ) (old new : Parts S H) → length new.ports.lines.items ≡ length old.ports.lines.items
+pub packets-grow : {S H : Type 0} (packets : ℕ) (old new : Parts S H)
+    → length new.ports.lines.items ≡ length old.ports.lines.items
     → ((n : ℕ) → NextWithin n old.ports.lines.items → NextWithin (n + packets) new.ports.lines.items)
     → PortsStaySettled old.ports new.ports
-    → new.clients ≡ old.clients → new.client_ports ≡ old.client_ports → new.orders ≡ old.orders → Grows 0 packets old new
+    → new.clients ≡ old.clients → new.client_ports ≡ old.client_ports → new.orders ≡ old.orders
+    → Grows 0 packets old new
 packets-grow packets old new count next settled same_clients same_client_ports same_orders = record {
   clients = rw same_clients refl;
   ports = count;

@@ -34,7 +34,8 @@ comes-up stood stands before now = rw (before, now) refl
 
 -- ---- the step
 
-state-after : (s : Settings) (p : ℕ) (before : List PortCall) (c : PortCall) → port_state s p (c ∷ before) ≡ (port_answer s p before c).after.state
+state-after : (s : Settings) (p : ℕ) (before : List PortCall) (c : PortCall)
+    → port_state s p (c ∷ before) ≡ (port_answer s p before c).after.state
 unfolding port_state port_answer
 state-after s p before c = refl
 
@@ -42,21 +43,26 @@ called-here : (p : ℕ) (c : PortCall) (v : Lists) → (port_called p c v).port_
 called-here p c v = ap (λ (w : Bool). if w then c ∷ v.port_calls p else v.port_calls p) (eq-eqb p p refl)
 
 -- how the port stands after the call
-stands-after : (s : Settings) (p : ℕ) (c : PortCall) (v : Lists) → port_state s p ((port_called p c v).port_calls p) ≡ (port_answer s p (v.port_calls p) c).after.state
+stands-after : (s : Settings) (p : ℕ) (c : PortCall) (v : Lists)
+    → port_state s p ((port_called p c v).port_calls p) ≡ (port_answer s p (v.port_calls p) c).after.state
 stands-after s p c v = ap (port_state s p) (called-here p c v) ∙ state-after s p (v.port_calls p) c
 
 -- what is due after the call is what the event asks
-asks-due : (up : Bool) (s : Settings) (p : ℕ) (c : PortCall) (v : Lists) (ms : List (List ℕ)) (b : Batch) → messages b ≡ ms → AreDue up s p (port_called p c v) ms → AsksAgain up s p false b v
+asks-due : (up : Bool) (s : Settings) (p : ℕ) (c : PortCall) (v : Lists) (ms : List (List ℕ)) (b : Batch)
+    → messages b ≡ ms → AreDue up s p (port_called p c v) ms → AsksAgain up s p false b v
 asks-due true s p c v ms b is due = subst (λ (m : List (List ℕ)). AreDue true s p v m) (sym is) due
 asks-due false s p c v ms b is due = is ∙ due
 
 -- a link that is the current one
-current-is : (has : Bool) (link : ℕ) (current : Option ℕ) → (has && is_the_number link current) ≡ true → current ≡ Some link
+current-is : (has : Bool) (link : ℕ) (current : Option ℕ) → (has && is_the_number link current) ≡ true
+    → current ≡ Some link
 current-is true link (Some current) on = ap Some (eqb-true current link on)
 current-is true link None on = absurd (cc)
 current-is false link current on = absurd (cc)
 
-pub port-heard : {S H : Type 0} → ReadsSent → (s : Settings) (v : Lists) (p link at : ℕ) (packet : Packet) (stood : PortState) (said : List PortOut) (more : List LinkOut) (fault : Option PortFault) (outs : List LinkOut) (heard g new : Parts S H)
+pub port-heard : {S H : Type 0} → ReadsSent
+    → (s : Settings) (v : Lists) (p link at : ℕ) (packet : Packet) (stood : PortState) (said : List PortOut)
+    (more : List LinkOut) (fault : Option PortFault) (outs : List LinkOut) (heard g new : Parts S H)
     → AfterPacket s p link at packet None said v heard
     → stood ≡ port_state s p (v.port_calls p)
     → (again : IsSentAgain s p at stood more (port_called p (OnPacket packet at) v) g)
@@ -67,17 +73,21 @@ pub port-heard : {S H : Type 0} → ReadsSent → (s : Settings) (v : Lists) (p 
     → length new.ports.lines.items ≡ length g.ports.lines.items
     → new.clients ≡ g.clients → new.client_ports ≡ g.client_ports → new.orders ≡ g.orders
     → Stepped s (PortPacket p link at packet) (batch_of 0 [] [] p outs fault) v new
-port-heard reads s v p link at packet stood said more fault outs heard g new given before again fault_is told leave links count same_clients same_client_ports same_orders =
+port-heard reads s v p link at packet stood said more fault outs heard g new given before again fault_is told leave
+    links count same_clients same_client_ports same_orders =
     let e : Event = PortPacket p link at packet in
     let b : Batch = batch_of 0 [] [] p outs fault in
     let c : PortCall = OnPacket packet at in
     let ms = again.messages in
     let a : PortAnswer = port_answer s p (v.port_calls p) c in
     let lines : outs ≡ to_port (v.port_link p) (port_outs s p (v.port_calls p) (c ∷ sends at ms)) =
-    port-told-with (v.port_link p) outs said more a.outs (port_outs s p (c ∷ v.port_calls p) (sends at ms)) told given.said_is
-    (again.sent.outs_are ∙ ap (λ (calls : List PortCall). to_port (v.port_link p) (port_outs s p calls (sends at ms))) (called-here p c v)) in
+    port-told-with (v.port_link p) outs said more a.outs
+    (port_outs s p (c ∷ v.port_calls p) (sends at ms)) told given.said_is
+    (again.sent.outs_are ∙ ap (λ (calls : List PortCall). to_port (v.port_link p) (port_outs s p calls (sends at ms)))
+    (called-here p c v)) in
     let asked : messages b ≡ ms =
-    ap (flat_map message_in) (lines ∙ ap (λ (l : Option ℕ). to_port l (port_outs s p (v.port_calls p) (c ∷ sends at ms))) (current-is (has_port s p) link (v.port_link p) given.on))
+    ap (flat_map message_in) (lines ∙ ap (λ (l : Option ℕ). to_port l
+    (port_outs s p (v.port_calls p) (c ∷ sends at ms))) (current-is (has_port s p) link (v.port_link p) given.on))
     ∙ reads s p link at (v.port_calls p) c ms refl in
     let came : came_up stood (port_state s p ((port_called p c v).port_calls p)) ≡ comes_up s e v =
     ap (λ (x : PortState). came_up x (port_state s p ((port_called p c v).port_calls p))) before
@@ -95,7 +105,8 @@ port-heard reads s v p link at packet stood said more fault outs heard g new giv
 
 -- ---- what is known once the session heard a packet
 
-pub after-packet : {S H : Type 0} (s : Settings) (v : Lists) (p link at : ℕ) (packet : Packet) (turn : PortTurn) (g new : Parts S H)
+pub after-packet : {S H : Type 0} (s : Settings) (v : Lists) (p link at : ℕ) (packet : Packet) (turn : PortTurn)
+    (g new : Parts S H)
     → (has_port s p && is_the_number link (v.port_link p)) ≡ true
     → IsAnswer (port_answer s p (v.port_calls p) (OnPacket packet at)) turn
     → Ready s v g
@@ -103,13 +114,16 @@ pub after-packet : {S H : Type 0} (s : Settings) (v : Lists) (p link at : ℕ) (
     → PortLinks v.port_link new.ports.lines.items
     → length new.ports.lines.items ≡ length g.ports.lines.items
     → new.clients ≡ g.clients → new.client_ports ≡ g.client_ports → new.orders ≡ g.orders
-    → AfterPacket s p link at packet (if turn.is_delivered then Some packet.payload else None) (option_to_list turn.out) v new
+    → AfterPacket s p link at packet (if turn.is_delivered then Some packet.payload else None)
+    (option_to_list turn.out) v new
 unfolding port_answer
-after-packet s v p link at packet turn g new on answer ready leave links count same_clients same_client_ports same_orders = record {
-  on = on;
-  payload_is = delivered-is (port_terms s p) (v.port_calls p) packet at turn answer;
-  said_is = answer.outs;
-  linked = ready.linked;
-  few = ready.few;
-  parts = ports-parts s p (OnPacket packet at ∷ []) v g new ready.parts leave links count same_clients same_client_ports same_orders;
-}
+after-packet s v p link at packet turn g new on answer ready leave links count same_clients same_client_ports
+    same_orders = record {
+      on = on;
+      payload_is = delivered-is (port_terms s p) (v.port_calls p) packet at turn answer;
+      said_is = answer.outs;
+      linked = ready.linked;
+      few = ready.few;
+      parts = ports-parts s p (OnPacket packet at ∷ []) v g new ready.parts leave links count same_clients same_client_ports
+          same_orders;
+    }

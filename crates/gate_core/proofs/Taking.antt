@@ -30,7 +30,8 @@ has-place place count inside =
     let within : nat_le (place + 1) count ≡ true = grind (arith, nat_tests, inside) in
     rw (from_one, within) refl
 
-none-sent : (state : PortState) (P : Asked → List ℕ → Type 0) (asked : List Asked) (sends : List (List ℕ)) → is_up state ≡ false → Sends (stands_of state) P asked sends → sends ≡ []
+none-sent : (state : PortState) (P : Asked → List ℕ → Type 0) (asked : List Asked) (sends : List (List ℕ))
+    → is_up state ≡ false → Sends (stands_of state) P asked sends → sends ≡ []
 none-sent Down P asked sends down none = none
 none-sent LoggingIn P asked sends down none = none
 none-sent Up P asked sends down says = absurd (cc)
@@ -38,20 +39,32 @@ none-sent Ended P asked sends down none = none
 none-sent (Faulted n) P asked sends down none = none
 
 same-turn : (s : Settings) (n : ℕ) (message : AppMsg) (out : CoreOut) (state : Stands) (v : Lists)
-    → port_seen state ≡ stands_of (port_state s (port_of s n) (v.port_calls (port_of s n))) → client_turn n message state out ≡ orders_turn_of s n message out v
+    → port_seen state ≡ stands_of (port_state s (port_of s n) (v.port_calls (port_of s n)))
+    → client_turn n message state out ≡ orders_turn_of s n message out v
 same-turn s n message out state v stands = ap turn stands
   where
     turn : Port → OrderTurn
-    turn port = record { event = Came n (message_fields message) port; client = n; bodies = map body_fields out.bodies.items; sends = map inbound_bytes out.sends.items; fault = None }
+    turn port = record {
+      event = Came n (message_fields message) port;
+      client = n;
+      bodies =
+          map body_fields out.bodies.items;
+      sends = map inbound_bytes out.sends.items;
+      fault = None;
+    }
 
-pub taken : {S H : Type 0} (s : Settings) (n : ℕ) (message : AppMsg) (out : CoreOut) (state : Stands) (v : Lists) (g new : Parts S H)
-    → port_seen state ≡ stands_of (port_state s (port_of s n) (v.port_calls (port_of s n))) → has_client s n ≡ true → ArePartsOf s v g
-    → IsAfterTurns (terms s) (client_turn n message state out ∷ v.turns) new.orders → Headline (terms s) (client_turn n message state out ∷ v.turns)
+pub taken : {S H : Type 0} (s : Settings) (n : ℕ) (message : AppMsg) (out : CoreOut) (state : Stands) (v : Lists)
+    (g new : Parts S H)
+    → port_seen state ≡ stands_of (port_state s (port_of s n) (v.port_calls (port_of s n))) → has_client s n ≡ true
+    → ArePartsOf s v g
+    → IsAfterTurns (terms s) (client_turn n message state out ∷ v.turns) new.orders
+    → Headline (terms s) (client_turn n message state out ∷ v.turns)
     → new.clients ≡ g.clients → new.ports ≡ g.ports → new.client_ports ≡ g.client_ports
     → IsTurn s n message out v new
 taken s n message out state v g new stands has parts after headline same_clients same_ports same_client_ports =
     let is = same-turn s n message out state v stands in
-    let holds : Headline (terms s) (orders_turn_of s n message out v ∷ v.turns) = subst (λ (t : OrderTurn). Headline (terms s) (t ∷ v.turns)) is headline in
+    let holds : Headline (terms s) (orders_turn_of s n message out v ∷ v.turns) =
+    subst (λ (t : OrderTurn). Headline (terms s) (t ∷ v.turns)) is headline in
     record {
       parts = record {
         clients = rw same_clients parts.clients;
@@ -65,5 +78,6 @@ taken s n message out state v g new stands has parts after headline same_clients
         known = (has, parts.known);
       };
       headline = holds;
-      sends = λ down. none-sent (port_state s (port_of s n) (v.port_calls (port_of s n))) _ _ _ down holds.0.answers.sends;
+      sends = λ down. none-sent (port_state s (port_of s n) (v.port_calls (port_of s n))) _ _ _ down
+          holds.0.answers.sends;
     }

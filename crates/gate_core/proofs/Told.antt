@@ -1,5 +1,6 @@
 -- What a batch of one's own parts says, and what links it closes.
-use Rattle.std.proofs.Common.{◌≡◌, ◌==◌, ℕ, Bool, true, false, not, List, [], ◌∷◌, ◌++◌, map, length, Option, Some, None, refl, sym, ap, ◌∙◌, eqb-true, eq-eqb}
+use Rattle.std.proofs.Common.{◌≡◌, ◌==◌, ℕ, Bool, true, false, not, List, [], ◌∷◌, ◌++◌, map, length, Option, Some}
+use Rattle.std.proofs.Common.{None, refl, sym, ap, ◌∙◌, eqb-true, eq-eqb}
 use Rattle.std.proofs.lemmas.List.{map-append}
 use Rattle.std.proofs.lemmas.Simd.{map-map}
 use Rattle.std.proofs.Math.Dec.{eqb-suc-zero}
@@ -18,23 +19,29 @@ use Rattle.gate_events.specs.Seen.{link_out_seen}
 
 -- ---- what goes to a link
 
-pub told-to-client : (s : Settings) (c : ℕ) (link : Option ℕ) (outs : List Out) → outs_told_on link (map (told_of_out s.comp (client_name s c)) outs) ≡ to_client s c link outs
+pub told-to-client : (s : Settings) (c : ℕ) (link : Option ℕ) (outs : List Out)
+    → outs_told_on link (map (told_of_out s.comp (client_name s c)) outs) ≡ to_client s c link outs
 told-to-client s c None outs = refl
 told-to-client s c (Some link) outs = map-map (to_link link) (told_of_out s.comp (client_name s c)) outs
 
-to-client-append : (s : Settings) (c : ℕ) (link : Option ℕ) (xs ys : List Out) → to_client s c link (xs ++ ys) ≡ to_client s c link xs ++ to_client s c link ys
+to-client-append : (s : Settings) (c : ℕ) (link : Option ℕ) (xs ys : List Out)
+    → to_client s c link (xs ++ ys) ≡ to_client s c link xs ++ to_client s c link ys
 to-client-append s c None xs ys = refl
-to-client-append s c (Some link) xs ys = map-append (λ (out : Out). to_link link (told_of_out s.comp (client_name s c) out)) xs ys
+to-client-append s c (Some link) xs ys = map-append
+    (λ (out : Out). to_link link (told_of_out s.comp (client_name s c) out)) xs ys
 
 -- a client's link is told what its session said in one call, and what it is told of others
-pub client-told : (s : Settings) (c : ℕ) (link : Option ℕ) (outs : List LinkOut) (first : List ToldLink) (rest : List LinkOut) (xs ys : List Out)
-    → outs ≡ outs_told_on link first ++ rest → first ≡ map (told_of_out s.comp (client_name s c)) xs → rest ≡ outs_told_on link (map (told_of_out s.comp (client_name s c)) ys)
+pub client-told : (s : Settings) (c : ℕ) (link : Option ℕ) (outs : List LinkOut) (first : List ToldLink)
+    (rest : List LinkOut) (xs ys : List Out)
+    → outs ≡ outs_told_on link first ++ rest → first ≡ map (told_of_out s.comp (client_name s c)) xs
+    → rest ≡ outs_told_on link (map (told_of_out s.comp (client_name s c)) ys)
     → outs ≡ to_client s c link (xs ++ ys)
 client-told s c link outs first rest xs ys are is_first is_rest =
     are
     ∙ ap (λ (x : List ToldLink). outs_told_on link x ++ rest) is_first
     ∙ ap (λ (y : List LinkOut). outs_told_on link (map (told_of_out s.comp (client_name s c)) xs) ++ y) is_rest
-    ∙ ap (λ (x : List LinkOut). x ++ outs_told_on link (map (told_of_out s.comp (client_name s c)) ys)) (told-to-client s c link xs)
+    ∙ ap (λ (x : List LinkOut). x ++ outs_told_on link (map (told_of_out s.comp (client_name s c)) ys))
+    (told-to-client s c link xs)
     ∙ ap (λ (y : List LinkOut). to_client s c link xs ++ y) (told-to-client s c link ys)
     ∙ sym (to-client-append s c link xs ys)
 
@@ -48,7 +55,8 @@ pub nothing-on-port : (link : Option ℕ) → [] ≡ to_port link []
 nothing-on-port None = refl
 nothing-on-port (Some link) = refl
 
-pub to-port-append : (link : Option ℕ) (xs ys : List PortOut) → to_port link (xs ++ ys) ≡ to_port link xs ++ to_port link ys
+pub to-port-append : (link : Option ℕ) (xs ys : List PortOut)
+    → to_port link (xs ++ ys) ≡ to_port link xs ++ to_port link ys
 to-port-append None xs ys = refl
 to-port-append (Some link) xs ys = map-append (port_line link) xs ys
 
@@ -70,7 +78,8 @@ port-told-alone link outs first rest are none =
     ∙ ap (λ (xs : List LinkOut). to_port link first ++ xs) (nothing-on-port link)
 
 -- what its session said in one call, and what it is told of others
-pub port-told-with : (link : Option ℕ) (outs : List LinkOut) (first : List PortOut) (rest : List LinkOut) (xs ys : List PortOut)
+pub port-told-with : (link : Option ℕ) (outs : List LinkOut) (first : List PortOut) (rest : List LinkOut)
+    (xs ys : List PortOut)
     → outs ≡ to_port link first ++ rest → first ≡ xs → rest ≡ to_port link ys → outs ≡ to_port link (xs ++ ys)
 port-told-with link outs first rest xs ys are is_first is_rest =
     are
@@ -102,19 +111,24 @@ is_named a b n = if not (a && b) then Some n else None
 
 -- a link that is closed is that of the one whom the batch names
 pub named-client : (n m : ℕ) (reports : List Message) (outs : List LinkOut) (links : ℕ → Option ℕ)
-    → (if is_the_number m (is_named (length reports == 0) (length outs == 0) n) then unless_closed outs (links m) else links m) ≡ unlinked n outs links m
+    → (if is_the_number m (is_named (length reports == 0) (length outs == 0) n) then unless_closed outs
+    (links m) else links m) ≡ unlinked n outs links m
 named-client n m reports [] links =
     same (is_the_number m (is_named (length reports == 0) true n)) (links m) ∙ sym (same (m == n) (links m))
 named-client n m reports (o ∷ os) links =
-    ap (λ (w : Bool). if is_the_number m (is_named (length reports == 0) w n) then unless_closed (o ∷ os) (links m) else links m) (eqb-suc-zero (length os))
-    ∙ ap (λ (w : Bool). if is_the_number m (if not w then Some n else None) then unless_closed (o ∷ os) (links m) else links m) (and-false (length reports == 0))
+    ap (λ (w : Bool). if is_the_number m (is_named (length reports == 0) w n) then unless_closed (o ∷ os)
+    (links m) else links m) (eqb-suc-zero (length os))
+    ∙ ap (λ (w : Bool). if is_the_number m (if not w then Some n else None) then unless_closed (o ∷ os)
+    (links m) else links m) (and-false (length reports == 0))
     ∙ ap (λ (w : Bool). if w then unless_closed (o ∷ os) (links m) else links m) (numbers m n)
 
 -- and of a port
 pub named-port : (n m : ℕ) (is_no_fault : Bool) (outs : List LinkOut) (links : ℕ → Option ℕ)
-    → (if is_the_number m (is_named (length outs == 0) is_no_fault n) then unless_closed outs (links m) else links m) ≡ unlinked n outs links m
+    → (if is_the_number m (is_named (length outs == 0) is_no_fault n) then unless_closed outs (links m) else links m)
+    ≡ unlinked n outs links m
 named-port n m is_no_fault [] links =
     same (is_the_number m (is_named true is_no_fault n)) (links m) ∙ sym (same (m == n) (links m))
 named-port n m is_no_fault (o ∷ os) links =
-    ap (λ (w : Bool). if is_the_number m (is_named w is_no_fault n) then unless_closed (o ∷ os) (links m) else links m) (eqb-suc-zero (length os))
+    ap (λ (w : Bool). if is_the_number m (is_named w is_no_fault n) then unless_closed (o ∷ os) (links m) else links m)
+    (eqb-suc-zero (length os))
     ∙ ap (λ (w : Bool). if w then unless_closed (o ∷ os) (links m) else links m) (numbers m n)

@@ -19,10 +19,12 @@ turns-few s [] = omega arith
 turns-few s (t ∷ before) = by_limit (is_within_day before) (turns-few s before)
   where
     by_limit : (w : Bool) → length (order_turns s before) ≤ length before
-        → length (if w then lists_after s t.event t.batch (lists s before) else lists s before).turns ≤ suc (length before)
+        → length (if w then lists_after s t.event t.batch (lists s before) else lists s before).turns ≤ suc
+        (length before)
     by_limit true few =
         let v : Lists = lists s before in
         let o : Outcome = outcome s t.event t.batch v in
         let one : length (turned o.turn v).turns ≤ suc (length v.turns) = one-turn o.turn v in
-        subst (λ (turns : orders.OrderHistory). length turns ≤ suc (length before)) (sym (turns-after o t.batch v)) (omega arith)
+        subst (λ (turns : orders.OrderHistory). length turns ≤ suc (length before)) (sym (turns-after o t.batch v))
+        (omega arith)
     by_limit false few = omega arith

@@ -35,11 +35,14 @@ no-link : (link : Option ℕ) → false ≡ is_some link → link ≡ None
 no-link None e = refl
 no-link (Some n) e = absurd (cc)
 
-faulted-has-none : (s : Settings) (x : Lists) (p : ℕ) (n : PortFault) → IsLinked s x p → port_state s p (x.port_calls p) ≡ Faulted n → x.port_link p ≡ None
+faulted-has-none : (s : Settings) (x : Lists) (p : ℕ) (n : PortFault) → IsLinked s x p
+    → port_state s p (x.port_calls p) ≡ Faulted n → x.port_link p ≡ None
 faulted-has-none s x p n linked is = no-link (x.port_link p) (sym (ap is_open is) ∙ linked)
 
-names-port : (s : Settings) (e : Event) (b : Batch) (n : PortFault) (p : ℕ) → b.fault ≡ Some n → (if is_for_port b then Some p else None) ≡ Some p
-names-port s e b n p is = ap (λ (f : Option PortFault). if not ((length b.port_out == 0) && not (is_some f)) then Some p else None) is ∙ by_lines (length b.port_out == 0)
+names-port : (s : Settings) (e : Event) (b : Batch) (n : PortFault) (p : ℕ) → b.fault ≡ Some n
+    → (if is_for_port b then Some p else None) ≡ Some p
+names-port s e b n p is = ap (λ (f : Option PortFault). if not
+    ((length b.port_out == 0) && not (is_some f)) then Some p else None) is ∙ by_lines (length b.port_out == 0)
   where
     by_lines : (w : Bool) → (if not (w && false) then Some p else None) ≡ Some p
     by_lines true = refl
@@ -48,32 +51,43 @@ names-port s e b n p is = ap (λ (f : Option PortFault). if not ((length b.port_
 -- ---- an outcome that is a port's alone, and leaves it faulted
 
 module _ (s : Settings) (p link at : ℕ) (packet : Packet) (b : Batch) (v : Lists) (g : Gives s (PortPacket p link at packet) b v) where
-  alone-closes : (n : PortFault) (cs : List PortCall) (fault : Option PortFault) (turn : Option orders.OrderTurn) → outcome s (PortPacket p link at packet) b v ≡ alone p cs fault turn → b.fault ≡ Some n
-      → port_state s p (called cs (v.port_calls p)) ≡ Faulted n → IsLinked s (lists_after s (PortPacket p link at packet) b v) p → ClosesPort s (PortPacket p link at packet) b v n p
+  alone-closes : (n : PortFault) (cs : List PortCall) (fault : Option PortFault) (turn : Option orders.OrderTurn)
+      → outcome s (PortPacket p link at packet) b v ≡ alone p cs fault turn → b.fault ≡ Some n
+      → port_state s p (called cs (v.port_calls p)) ≡ Faulted n
+      → IsLinked s (lists_after s (PortPacket p link at packet) b v) p
+      → ClosesPort s (PortPacket p link at packet) b v n p
   alone-closes n cs fault turn is at_fault faulted linked = record {
     port = g.port ∙ names-port s (PortPacket p link at packet) b n p at_fault;
     state = state;
     link = faulted-has-none s (lists_after s (PortPacket p link at packet) b v) p n linked state;
     reports = g.reports ∙ ap (λ (o : Outcome). reports_of s o v) is;
     client_out = client_out;
-    clients = λ c. ap (λ (x : Lists). x.client_calls c) same ∙ ap (λ calls. calls c) (alone-keeps-calls p cs fault turn v);
-    client_links = λ c. ap (λ (x : Lists). x.client_link c) same ∙ unclosed c ∙ ap (λ links. links c) (alone-keeps-links p cs fault turn v);
+    clients = λ c. ap (λ (x : Lists). x.client_calls c) same
+        ∙ ap (λ calls. calls c) (alone-keeps-calls p cs fault turn v);
+    client_links = λ c. ap (λ (x : Lists). x.client_link c) same ∙ unclosed c
+        ∙ ap (λ links. links c) (alone-keeps-links p cs fault turn v);
     ports = λ q other. ap (λ (x : Lists). x.port_calls q) same ∙ other-calls (alone p cs fault turn) b v q other;
-    port_links = λ q other. ap (λ (x : Lists). x.port_link q) same ∙ link-due s (PortPacket p link at packet) b v (alone p cs fault turn) q g.port ∙ cond-false (p == q) _ _ (ne_eqb p q (λ e. eqb-false q p other (sym e)));
+    port_links = λ q other. ap (λ (x : Lists). x.port_link q) same
+        ∙ link-due s (PortPacket p link at packet) b v (alone p cs fault turn) q g.port
+        ∙ cond-false (p == q) _ _ (ne_eqb p q (λ e. eqb-false q p other (sym e)));
   }
     where
       same : lists_after s (PortPacket p link at packet) b v ≡ links_closed b (with_outcome (alone p cs fault turn) v)
       same = ap (λ (o : Outcome). links_closed b (with_outcome o v)) is
 
       state : port_state s p ((lists_after s (PortPacket p link at packet) b v).port_calls p) ≡ Faulted n
-      state = ap (λ (x : Lists). port_state s p (x.port_calls p)) same ∙ ap (port_state s p) (own-calls (alone p cs fault turn) b v p (eq-eqb p p refl)) ∙ faulted
+      state = ap (λ (x : Lists). port_state s p (x.port_calls p)) same
+          ∙ ap (port_state s p) (own-calls (alone p cs fault turn) b v p (eq-eqb p p refl)) ∙ faulted
 
       client_out : b.client_out ≡ []
       client_out = g.client_out ∙ ap (λ (o : Outcome). to_client_of s o v) is ∙ no-client-lines s 0 (v.client_link 0)
 
-      unclosed : (c : ℕ) → (links_closed b (with_outcome (alone p cs fault turn) v)).client_link c ≡ (with_outcome (alone p cs fault turn) v).client_link c
+      unclosed : (c : ℕ) → (links_closed b (with_outcome (alone p cs fault turn) v)).client_link c
+          ≡ (with_outcome (alone p cs fault turn) v).client_link c
       unclosed c =
-          ap (λ (lines : List LinkOut). if is_the_number c b.client then unless_closed lines ((with_outcome (alone p cs fault turn) v).client_link c) else (with_outcome (alone p cs fault turn) v).client_link c) client_out
+          ap (λ (lines : List LinkOut). if is_the_number c b.client then unless_closed lines
+          ((with_outcome (alone p cs fault turn) v).client_link c) else
+          (with_outcome (alone p cs fault turn) v).client_link c) client_out
           ∙ same-if (is_the_number c b.client) ((with_outcome (alone p cs fault turn) v).client_link c)
 
 -- ---- which outcomes have a fault
@@ -85,11 +99,13 @@ fault-state Up n e = absurd (cc)
 fault-state Ended n e = absurd (cc)
 fault-state (Faulted m) n e = ap Faulted (cc)
 
-heard-state : (s : Settings) (p : ℕ) (before : List PortCall) (c : PortCall) → port_state s p (c ∷ before) ≡ (port_answer s p before c).after.state
+heard-state : (s : Settings) (p : ℕ) (before : List PortCall) (c : PortCall)
+    → port_state s p (c ∷ before) ≡ (port_answer s p before c).after.state
 unfolding port_state port_answer
 heard-state s p before c = refl
 
-failed-state : (s : Settings) (p : ℕ) (n : PortFault) (before : List PortCall) → port_state s p (Fail n ∷ before) ≡ Faulted n
+failed-state : (s : Settings) (p : ℕ) (n : PortFault) (before : List PortCall)
+    → port_state s p (Fail n ∷ before) ≡ Faulted n
 unfolding port_state
 failed-state s p n before = refl
 
@@ -107,76 +123,109 @@ faultless-port-up : (p link at : ℕ) (current : Option ℕ) → (port_up p link
 faultless-port-up p link at None = refl
 faultless-port-up p link at (Some n) = faultless-either (n == link) _ _ refl refl
 
-faultless-app : (s : Settings) (client at : ℕ) (frame : Message) (b : Batch) (v : Lists) (app : Option AppMsg) → (by_app s client at frame b v app).fault ≡ None
+faultless-app : (s : Settings) (client at : ℕ) (frame : Message) (b : Batch) (v : Lists) (app : Option AppMsg)
+    → (by_app s client at frame b v app).fault ≡ None
 faultless-app s client at frame b v None = refl
 faultless-app s client at frame b v (Some app) = refl
 
 -- what a packet comes to where it does anything
-pub packet-outcome : (s : Settings) (p link at : ℕ) (packet : Packet) (b : Batch) (v : Lists) (payload : Option (List ℕ)) → is_stepped s (PortPacket p link at packet) v ≡ true
+pub packet-outcome : (s : Settings) (p link at : ℕ) (packet : Packet) (b : Batch) (v : Lists)
+    (payload : Option (List ℕ)) → is_stepped s (PortPacket p link at packet) v ≡ true
     → (port_answer s p (v.port_calls p) (OnPacket packet at)).payload ≡ payload
-    → outcome s (PortPacket p link at packet) b v ≡ by_payload p at packet b (port_answer s p (v.port_calls p) (OnPacket packet at)) payload
+    → outcome s (PortPacket p link at packet) b v
+    ≡ by_payload p at packet b (port_answer s p (v.port_calls p) (OnPacket packet at)) payload
 packet-outcome s p link at packet b v payload is has =
     cond-true (is_stepped s (PortPacket p link at packet) v) _ _ is
     ∙ ap (by_payload p at packet b (port_answer s p (v.port_calls p) (OnPacket packet at))) has
 
 -- the turn of a payload
 abbrev pub turn_of : ℕ → Batch → List ℕ → Option orders.OrderTurn
-turn_of p b payload = Some (record { event = orders.Heard p (decoded payload); client = addressee b; bodies = bodies b; sends = []; fault = option_map fault_number b.fault })
+turn_of p b payload = Some (record {
+  event = orders.Heard p (decoded payload);
+  client = addressee b;
+  bodies =
+      bodies b;
+  sends = [];
+  fault = option_map fault_number b.fault;
+})
 
-pub told-outcome : (p at : ℕ) (packet : Packet) (b : Batch) (payload : List ℕ) (fault : Option PortFault) → b.fault ≡ fault
+pub told-outcome : (p at : ℕ) (packet : Packet) (b : Batch) (payload : List ℕ) (fault : Option PortFault)
+    → b.fault ≡ fault
     → told_outcome p at packet b payload ≡ record (by_fault p at packet b fault) { turn = turn_of p b payload }
-told-outcome p at packet b payload fault e = ap (λ (f : Option PortFault). record (by_fault p at packet b f) { turn = turn_of p b payload }) e
+told-outcome p at packet b payload fault e =
+    ap (λ (f : Option PortFault). record (by_fault p at packet b f) { turn = turn_of p b payload }) e
 
 no-fault : {X : Type 0} (x : Option PortFault) (n : PortFault) → x ≡ None → x ≡ Some n → X
 no-fault x n e is = absurd (cc)
 
-module _ (ends : EndsAll) (s : Settings) (p link at : ℕ) (packet : Packet) (b : Batch) (v : Lists) (g : Gives s (PortPacket p link at packet) b v)
+module _ (ends : EndsAll) (s : Settings) (p link at : ℕ) (packet : Packet) (b : Batch) (v : Lists)
+    (g : Gives s (PortPacket p link at packet) b v)
     (before : (q : ℕ) → IsLinked s v q) (n : PortFault) (at_fault : b.fault ≡ Some n) where
   linked-after : IsLinked s (lists_after s (PortPacket p link at packet) b v) p
-  linked-after = event-linked s (PortPacket p link at packet) b v (outcome s (PortPacket p link at packet) b v) g.port_out g.port before p (outcome-keeps ends s (PortPacket p link at packet) b v)
+  linked-after = event-linked s (PortPacket p link at packet) b v
+      (outcome s (PortPacket p link at packet) b v) g.port_out g.port before p
+      (outcome-keeps ends s (PortPacket p link at packet) b v)
 
   abbrev Closes : Type 0
   Closes = ClosesPort s (PortPacket p link at packet) b v n p
 
   -- the session's fault, and the order level's
-  session-closes : outcome s (PortPacket p link at packet) b v ≡ by_payload p at packet b (port_answer s p (v.port_calls p) (OnPacket packet at)) None → Closes
+  session-closes : outcome s (PortPacket p link at packet) b v
+      ≡ by_payload p at packet b (port_answer s p (v.port_calls p) (OnPacket packet at)) None → Closes
   session-closes is =
-      let in_state : fault_in (port_answer s p (v.port_calls p) (OnPacket packet at)).after.state ≡ Some n = sym (g.fault ∙ ap (λ (o : Outcome). o.fault) is) ∙ at_fault in
+      let in_state : fault_in (port_answer s p (v.port_calls p) (OnPacket packet at)).after.state ≡ Some n =
+      sym (g.fault ∙ ap (λ (o : Outcome). o.fault) is) ∙ at_fault in
       alone-closes s p link at packet b v g n (OnPacket packet at ∷ sends at (messages b)) _ None is at_fault
-      (state-sent s p at (messages b) (OnPacket packet at ∷ v.port_calls p) ∙ heard-state s p (v.port_calls p) (OnPacket packet at) ∙ fault-state _ n in_state) linked-after
+      (state-sent s p at (messages b) (OnPacket packet at ∷ v.port_calls p)
+      ∙ heard-state s p (v.port_calls p) (OnPacket packet at) ∙ fault-state _ n in_state) linked-after
 
-  payload-closes : (payload : List ℕ) → outcome s (PortPacket p link at packet) b v ≡ told_outcome p at packet b payload → Closes
+  payload-closes : (payload : List ℕ) → outcome s (PortPacket p link at packet) b v ≡ told_outcome p at packet b payload
+      → Closes
   payload-closes payload is =
-      alone-closes s p link at packet b v g n (OnPacket packet at ∷ Fail n ∷ []) (Some n) (turn_of p b payload) (is ∙ told-outcome p at packet b payload (Some n) at_fault) at_fault
+      alone-closes s p link at packet b v g n (OnPacket packet at ∷ Fail n ∷ []) (Some n) (turn_of p b payload)
+      (is ∙ told-outcome p at packet b payload (Some n) at_fault) at_fault
       (failed-state s p n (OnPacket packet at ∷ v.port_calls p)) linked-after
 
   packet-closes : Closes
   packet-closes = by_step (cases_Bool (is_stepped s (PortPacket p link at packet) v))
     where
-      by_answer : is_stepped s (PortPacket p link at packet) v ≡ true → (payload : Option (List ℕ)) → (port_answer s p (v.port_calls p) (OnPacket packet at)).payload ≡ payload → Closes
+      by_answer : is_stepped s (PortPacket p link at packet) v ≡ true → (payload : Option (List ℕ))
+          → (port_answer s p (v.port_calls p) (OnPacket packet at)).payload ≡ payload → Closes
       by_answer is None has = session-closes (packet-outcome s p link at packet b v None is has)
-      by_answer is (Some payload) has = payload-closes payload (packet-outcome s p link at packet b v (Some payload) is has)
+      by_answer is (Some payload) has = payload-closes payload
+          (packet-outcome s p link at packet b v (Some payload) is has)
 
-      by_step : (is_stepped s (PortPacket p link at packet) v ≡ true) ⊎ (is_stepped s (PortPacket p link at packet) v ≡ false) → Closes
+      by_step : (is_stepped s (PortPacket p link at packet) v ≡ true) ⊎
+          (is_stepped s (PortPacket p link at packet) v ≡ false) → Closes
       by_step (inl is) = by_answer is (port_answer s p (v.port_calls p) (OnPacket packet at)).payload refl
-      by_step (inr none) = no-fault b.fault n (g.fault ∙ ap (λ (o : Outcome). o.fault) (no-outcome s (PortPacket p link at packet) b v none)) at_fault
+      by_step (inr none) = no-fault b.fault n (g.fault
+          ∙ ap (λ (o : Outcome). o.fault) (no-outcome s (PortPacket p link at packet) b v none)) at_fault
 
 -- of any event but a packet
-faultless : (s : Settings) (e : Event) (b : Batch) (v : Lists) (n : PortFault) → Gives s e b v → (by_event s e b v).fault ≡ None → b.fault ≡ Some n → (p : ℕ) × ClosesPort s e b v n p
+faultless : (s : Settings) (e : Event) (b : Batch) (v : Lists) (n : PortFault) → Gives s e b v
+    → (by_event s e b v).fault ≡ None → b.fault ≡ Some n → (p : ℕ) × ClosesPort s e b v n p
 faultless s e b v n g none is = no-fault b.fault n (g.fault ∙ faultless-either (is_stepped s e v) _ _ none refl) is
 
-event-closes : EndsAll → (s : Settings) (e : Event) (b : Batch) (v : Lists) (n : PortFault) → Gives s e b v → ((q : ℕ) → IsLinked s v q) → b.fault ≡ Some n → (p : ℕ) × ClosesPort s e b v n p
-event-closes ends s (ClientUp client link at) b v n g before is = faultless s (ClientUp client link at) b v n g (faultless-client-up client link at (v.client_link client)) is
+event-closes : EndsAll → (s : Settings) (e : Event) (b : Batch) (v : Lists) (n : PortFault) → Gives s e b v
+    → ((q : ℕ) → IsLinked s v q) → b.fault ≡ Some n → (p : ℕ) × ClosesPort s e b v n p
+event-closes ends s (ClientUp client link at) b v n g before is =
+    faultless s (ClientUp client link at) b v n g (faultless-client-up client link at (v.client_link client)) is
 event-closes ends s (ClientMessage client link at frame) b v n g before is =
-    faultless s (ClientMessage client link at frame) b v n g (faultless-app s client at frame b v (client_answer s client (v.client_calls client) (at, OnMessage frame)).app) is
-event-closes ends s (ClientGone client link at) b v n g before is = faultless s (ClientGone client link at) b v n g refl is
+    faultless s (ClientMessage client link at frame) b v n g
+    (faultless-app s client at frame b v (client_answer s client (v.client_calls client) (at, OnMessage frame)).app)
+    is
+event-closes ends s (ClientGone client link at) b v n g before is =
+    faultless s (ClientGone client link at) b v n g refl is
 event-closes ends s (ClientTick client at) b v n g before is = faultless s (ClientTick client at) b v n g refl is
-event-closes ends s (PortUp p link at) b v n g before is = faultless s (PortUp p link at) b v n g (faultless-port-up p link at (v.port_link p)) is
-event-closes ends s (PortPacket p link at packet) b v n g before is = (p, packet-closes ends s p link at packet b v g before n is)
+event-closes ends s (PortUp p link at) b v n g before is =
+    faultless s (PortUp p link at) b v n g (faultless-port-up p link at (v.port_link p)) is
+event-closes ends s (PortPacket p link at packet) b v n g before is =
+    (p, packet-closes ends s p link at packet b v g before n is)
 event-closes ends s (PortGone p link at) b v n g before is = faultless s (PortGone p link at) b v n g refl is
 event-closes ends s (PortTick p at) b v n g before is = faultless s (PortTick p at) b v n g refl is
 
-pub faults-close : EndsAll → (s : Settings) (e : Event) (b : Batch) (v : Lists) → Gives s e b v → ((q : ℕ) → IsLinked s v q) → Faults s e b v
+pub faults-close : EndsAll → (s : Settings) (e : Event) (b : Batch) (v : Lists) → Gives s e b v
+    → ((q : ℕ) → IsLinked s v q) → Faults s e b v
 faults-close ends s e b v g before = by_number b.fault refl
   where
     by_number : (f : Option PortFault) → b.fault ≡ f → ByFault s e b v f

@@ -18,11 +18,13 @@ abbrev pub called : List PortCall → List PortCall → List PortCall
 called [] before = before
 called (c ∷ cs) before = called cs (c ∷ before)
 
-pub calls-own : (p q : ℕ) (cs : List PortCall) (v : Lists) → (q == p) ≡ true → (port_called_all p cs v).port_calls q ≡ called cs (v.port_calls q)
+pub calls-own : (p q : ℕ) (cs : List PortCall) (v : Lists) → (q == p) ≡ true
+    → (port_called_all p cs v).port_calls q ≡ called cs (v.port_calls q)
 calls-own p q [] v e = refl
 calls-own p q (c ∷ cs) v e = calls-own p q cs (port_called p c v) e ∙ ap (called cs) (cond-true (q == p) _ _ e)
 
-pub calls-other : (p q : ℕ) (cs : List PortCall) (v : Lists) → (q == p) ≡ false → (port_called_all p cs v).port_calls q ≡ v.port_calls q
+pub calls-other : (p q : ℕ) (cs : List PortCall) (v : Lists) → (q == p) ≡ false
+    → (port_called_all p cs v).port_calls q ≡ v.port_calls q
 calls-other p q [] v f = refl
 calls-other p q (c ∷ cs) v f = calls-other p q cs (port_called p c v) f ∙ cond-false (q == p) _ _ f
 
@@ -37,7 +39,8 @@ moves-keep-calls p Goes v = refl
 moves-keep-calls p (Refused link) v = refl
 
 -- a link moves by what the links were
-moved-links : (p : ℕ) (move : LinkMove) (v w : Lists) → v.port_link ≡ w.port_link → (port_moved p move v).port_link ≡ (port_moved p move w).port_link
+moved-links : (p : ℕ) (move : LinkMove) (v w : Lists) → v.port_link ≡ w.port_link
+    → (port_moved p move v).port_link ≡ (port_moved p move w).port_link
 moved-links p Stays v w e = e
 moved-links p (Comes link) v w e = ap (λ (links : ℕ → Option ℕ). λ (q : ℕ). if q == p then Some link else links q) e
 moved-links p Goes v w e = ap (λ (links : ℕ → Option ℕ). λ (q : ℕ). if q == p then None else links q) e
@@ -65,11 +68,13 @@ client-move-keeps-calls c (Comes link) v = refl
 client-move-keeps-calls c Goes v = refl
 client-move-keeps-calls c (Refused link) v = refl
 
-client-calls-keep-links : (c : ℕ) (calls : List Timed) (v : Lists) → (client_called_all c calls v).port_link ≡ v.port_link
+client-calls-keep-links : (c : ℕ) (calls : List Timed) (v : Lists)
+    → (client_called_all c calls v).port_link ≡ v.port_link
 client-calls-keep-links c [] v = refl
 client-calls-keep-links c (call ∷ calls) v = client-calls-keep-links c calls (client_called c call v)
 
-client-calls-keep-calls : (c : ℕ) (calls : List Timed) (v : Lists) → (client_called_all c calls v).port_calls ≡ v.port_calls
+client-calls-keep-calls : (c : ℕ) (calls : List Timed) (v : Lists)
+    → (client_called_all c calls v).port_calls ≡ v.port_calls
 client-calls-keep-calls c [] v = refl
 client-calls-keep-calls c (call ∷ calls) v = client-calls-keep-calls c calls (client_called c call v)
 
@@ -94,12 +99,14 @@ client-keeps-calls o v =
 front-calls : (o : Outcome) (v : Lists) → (port_moved o.port o.port_link (with_client o v)).port_calls ≡ v.port_calls
 front-calls o v = moves-keep-calls o.port o.port_link (with_client o v) ∙ client-keeps-calls o v
 
-pub own-calls : (o : Outcome) (b : Batch) (v : Lists) (q : ℕ) → (q == o.port) ≡ true → (links_closed b (with_outcome o v)).port_calls q ≡ called o.port_calls (v.port_calls q)
+pub own-calls : (o : Outcome) (b : Batch) (v : Lists) (q : ℕ) → (q == o.port) ≡ true
+    → (links_closed b (with_outcome o v)).port_calls q ≡ called o.port_calls (v.port_calls q)
 own-calls o b v q e =
     calls-own o.port q o.port_calls (port_moved o.port o.port_link (with_client o v)) e
     ∙ ap (λ (calls : ℕ → List PortCall). called o.port_calls (calls q)) (front-calls o v)
 
-pub other-calls : (o : Outcome) (b : Batch) (v : Lists) (q : ℕ) → (q == o.port) ≡ false → (links_closed b (with_outcome o v)).port_calls q ≡ v.port_calls q
+pub other-calls : (o : Outcome) (b : Batch) (v : Lists) (q : ℕ) → (q == o.port) ≡ false
+    → (links_closed b (with_outcome o v)).port_calls q ≡ v.port_calls q
 other-calls o b v q f =
     calls-other o.port q o.port_calls (port_moved o.port o.port_link (with_client o v)) f
     ∙ ap (λ (calls : ℕ → List PortCall). calls q) (front-calls o v)
@@ -107,13 +114,15 @@ other-calls o b v q f =
 -- a link is what became of it, unless the batch closes it
 pub link-after : (o : Outcome) (b : Batch) (v : Lists) (q : ℕ)
     → (links_closed b (with_outcome o v)).port_link q
-    ≡ (if is_the_number q b.port then unless_closed b.port_out ((port_moved o.port o.port_link v).port_link q) else (port_moved o.port o.port_link v).port_link q)
+    ≡ (if is_the_number q b.port then unless_closed b.port_out ((port_moved o.port o.port_link v).port_link q) else
+    (port_moved o.port o.port_link v).port_link q)
 link-after o b v q =
     ap (λ (links : ℕ → Option ℕ). if is_the_number q b.port then unless_closed b.port_out (links q) else links q)
     (calls-keep-links o.port o.port_calls (port_moved o.port o.port_link (with_client o v))
     ∙ moved-links o.port o.port_link (with_client o v) v (client-keeps-links o v))
 
-pub moved-other : (p q : ℕ) (move : LinkMove) (v : Lists) → (q == p) ≡ false → (port_moved p move v).port_link q ≡ v.port_link q
+pub moved-other : (p q : ℕ) (move : LinkMove) (v : Lists) → (q == p) ≡ false
+    → (port_moved p move v).port_link q ≡ v.port_link q
 moved-other p q Stays v f = refl
 moved-other p q (Comes link) v f = cond-false (q == p) _ _ f
 moved-other p q Goes v f = cond-false (q == p) _ _ f
@@ -121,11 +130,13 @@ moved-other p q (Refused link) v f = refl
 
 -- ---- what is of a port leaves clients as they are
 
-calls-keep-client-calls : (p : ℕ) (cs : List PortCall) (v : Lists) → (port_called_all p cs v).client_calls ≡ v.client_calls
+calls-keep-client-calls : (p : ℕ) (cs : List PortCall) (v : Lists)
+    → (port_called_all p cs v).client_calls ≡ v.client_calls
 calls-keep-client-calls p [] v = refl
 calls-keep-client-calls p (c ∷ cs) v = calls-keep-client-calls p cs (port_called p c v)
 
-calls-keep-client-links : (p : ℕ) (cs : List PortCall) (v : Lists) → (port_called_all p cs v).client_link ≡ v.client_link
+calls-keep-client-links : (p : ℕ) (cs : List PortCall) (v : Lists)
+    → (port_called_all p cs v).client_link ≡ v.client_link
 calls-keep-client-links p [] v = refl
 calls-keep-client-links p (c ∷ cs) v = calls-keep-client-links p cs (port_called p c v)
 
@@ -141,8 +152,10 @@ turn-keeps-client-links (Some t) v = refl
 abbrev pub alone : ℕ → List PortCall → Option PortFault → Option orders.OrderTurn → Outcome
 alone p cs fault turn = record (of_port p Stays cs) { fault = fault; turn = turn }
 
-pub alone-keeps-calls : (p : ℕ) (cs : List PortCall) (fault : Option PortFault) (turn : Option orders.OrderTurn) (v : Lists) → (with_outcome (alone p cs fault turn) v).client_calls ≡ v.client_calls
+pub alone-keeps-calls : (p : ℕ) (cs : List PortCall) (fault : Option PortFault) (turn : Option orders.OrderTurn)
+    (v : Lists) → (with_outcome (alone p cs fault turn) v).client_calls ≡ v.client_calls
 alone-keeps-calls p cs fault turn v = calls-keep-client-calls p cs (turned turn v) ∙ turn-keeps-client-calls turn v
 
-pub alone-keeps-links : (p : ℕ) (cs : List PortCall) (fault : Option PortFault) (turn : Option orders.OrderTurn) (v : Lists) → (with_outcome (alone p cs fault turn) v).client_link ≡ v.client_link
+pub alone-keeps-links : (p : ℕ) (cs : List PortCall) (fault : Option PortFault) (turn : Option orders.OrderTurn)
+    (v : Lists) → (with_outcome (alone p cs fault turn) v).client_link ≡ v.client_link
 alone-keeps-links p cs fault turn v = calls-keep-client-links p cs (turned turn v) ∙ turn-keeps-client-links turn v

@@ -1,5 +1,7 @@
 -- All that a port is asked is sent while it is up.
-use Rattle.std.proofs.Common.{◌≡◌, ◌==◌, ℕ, Bool, true, false, not, List, [], ◌∷◌, ◌++◌, Option, Some, None, Result, Ok, Err, refl, ap, sym, subst, ◌∙◌, map, option_map, eq-eqb, inl, inr, length, filter, nat_lt, ◌-◌}
+use Rattle.std.proofs.Common.{◌≡◌, ◌==◌, ℕ, Bool, true, false, not, List, [], ◌∷◌, ◌++◌, Option, Some, None, Result, Ok}
+use Rattle.std.proofs.Common.{Err, refl, ap, sym, subst, ◌∙◌, map, option_map, eq-eqb, inl, inr, length, filter, nat_lt}
+use Rattle.std.proofs.Common.{◌-◌}
 use Rattle.std.proofs.Math.Dec.{eqb-suc-zero}
 use Rattle.std.proofs.lemmas.Bool.{eqb-true, eqb-false, ne_eqb, cases_Bool, cond-true, cond-false}
 use Rattle.std.specs.Prelude.{if◌then◌else◌, ◌&&◌, ◌⊎◌, is_some}
@@ -17,16 +19,21 @@ use Rattle.soup_session.specs.declared.port_state.PortState.{PortState}
 use Rattle.soup_session.specs.declared.port_state.PortState.TheVariants.{Down, LoggingIn, Up, Ended, Faulted}
 use Rattle.soup_session.specs.States.{is_down, is_up, is_open}
 use Rattle.soup_session.specs.Table as table
-use Rattle.soup_session.specs.Table.{LoginTerms, PortCall, OnUp, OnPacket, OnGone, OnTick, Send, Fail, PortStanding, PortAnswer, standing, answer}
+use Rattle.soup_session.specs.Table.{LoginTerms, PortCall, OnUp, OnPacket, OnGone, OnTick, Send, Fail, PortStanding}
+use Rattle.soup_session.specs.Table.{PortAnswer, standing, answer}
 use Rattle.fix_fields.specs.Field.{Message}
 use Rattle.order_law.specs.Verdicts.{Port}
-use Rattle.order_law.specs.History.{Terms, terms_of, Came, Heard, OrderTurn, OrderHistory, Entry, Asked, accepted, issued, handled, outstanding, entry_at, asks_of}
+use Rattle.order_law.specs.History.{Terms, terms_of, Came, Heard, OrderTurn, OrderHistory, Entry, Asked, accepted}
+use Rattle.order_law.specs.History.{issued, handled, outstanding, entry_at, asks_of}
 use Rattle.order_law.specs.Headline.{Each, EachWith, HasTokens, Says, SaysIn, Sends, Headline, order_number}
 use Rattle.gate_law.specs.Settings.{Settings, terms, port_of, port_terms}
-use Rattle.gate_law.specs.Events.{Event, ClientUp, ClientMessage, ClientGone, ClientTick, PortUp, PortPacket, PortGone, PortTick, LinkOut, Batch, Turn, History, is_the_number}
+use Rattle.gate_law.specs.Events.{Event, ClientUp, ClientMessage, ClientGone, ClientTick, PortUp, PortPacket, PortGone}
+use Rattle.gate_law.specs.Events.{PortTick, LinkOut, Batch, Turn, History, is_the_number}
 use Rattle.gate_law.specs.Lists.{Lists, turned}
 use Rattle.gate_law.specs.Sessions.{client_answer, port_answer, port_state, sends, stands_of}
-use Rattle.gate_law.specs.Outcome.{Outcome, nothing, outcome, of_port, of_client, Refused, client_up, port_up, by_app, by_fault, by_payload, told_outcome, by_event, is_stepped, messages, message_in, asked, addressee, bodies}
+use Rattle.gate_law.specs.Outcome.{Outcome, nothing, outcome, of_port, of_client, Refused, client_up, port_up, by_app}
+use Rattle.gate_law.specs.Outcome.{by_fault, by_payload, told_outcome, by_event, is_stepped, messages, message_in}
+use Rattle.gate_law.specs.Outcome.{asked, addressee, bodies}
 use Rattle.gate_law.specs.After.{lists, lists_after, links_closed, with_outcome, order_turns, is_within_day}
 use Rattle.gate_law.specs.Due.{Gives}
 use Rattle.gate_law.specs.Promises.{Asks, AsksAgain, comes_up, port_in, delivers_message}
@@ -66,17 +73,23 @@ among-right : (xs ys : List (List ℕ)) (a : Asked) → IsSentIn ys a → IsSent
 among-right [] ys a is = is
 among-right (x ∷ xs) ys a is = inr (among-right xs ys a is)
 
-each-said : (P : Asked → List ℕ → Type 0) → ((a : Asked) (m : List ℕ) → P a m → HasTokens a.said m) → (asked_all : List Asked) (ms : List (List ℕ)) → EachWith P asked_all ms → Each (IsSentIn ms) asked_all
+each-said : (P : Asked → List ℕ → Type 0) → ((a : Asked) (m : List ℕ) → P a m → HasTokens a.said m)
+    → (asked_all : List Asked) (ms : List (List ℕ)) → EachWith P asked_all ms → Each (IsSentIn ms) asked_all
 each-said P says [] ms pairs = tt
 each-said P says (a ∷ others) [] pairs = absurd pairs
-each-said P says (a ∷ others) (m ∷ ms) pairs = (inl (says a m pairs.0), each-more (IsSentIn ms) (IsSentIn (m ∷ ms)) others (λ x is. inr is) (each-said P says others ms pairs.1))
+each-said P says (a ∷ others) (m ∷ ms) pairs = (
+  inl (says a m pairs.0),
+  each-more (IsSentIn ms) (IsSentIn (m ∷ ms)) others (λ x is. inr is)
+      (each-said P says others ms pairs.1),
+)
 
 -- the messages of a batch go to the port that it names
 same-if : {X : Type 0} (c : Bool) (x : X) → (if c then x else x) ≡ x
 same-if true x = refl
 same-if false x = refl
 
-sent-all : (outs : List LinkOut) (w : Bool) (n : ℕ) (named : Option ℕ) → named ≡ (if not ((length outs == 0) && w) then Some n else None)
+sent-all : (outs : List LinkOut) (w : Bool) (n : ℕ) (named : Option ℕ)
+    → named ≡ (if not ((length outs == 0) && w) then Some n else None)
     → (if is_the_number n named then flat_map message_in outs else []) ≡ flat_map message_in outs
 sent-all [] w n named is = same-if (is_the_number n named) []
 sent-all (x ∷ outs) w n named is =
@@ -86,7 +99,8 @@ sent-all (x ∷ outs) w n named is =
 
 -- ---- a port comes up by a packet alone
 
-up-if : (b : Bool) (x y : PortAnswer) (P : Type 0) → (is_up x.after.state ≡ true → P) → (is_up y.after.state ≡ true → P) → is_up (if b then x else y).after.state ≡ true → P
+up-if : (b : Bool) (x y : PortAnswer) (P : Type 0) → (is_up x.after.state ≡ true → P) → (is_up y.after.state ≡ true → P)
+    → is_up (if b then x else y).after.state ≡ true → P
 up-if true x y P p q up = p up
 up-if false x y P p q up = q up
 
@@ -102,7 +116,8 @@ raised-by-tick x up =
     up-if (nat_lt 15_000 (x.now - x.heard)) _ _ (WasUp x) (λ is. absurd (cc)) (λ late.
     up-if (is_up x.state && nat_lt 1_000 (x.now - x.sent)) _ _ (WasUp x) (λ is. is) (λ is. is) late) rest) up
 
-raised-by-gone : (x : PortStanding) (w : Bool) → is_up (if w then record x { state = Down } else x).state ≡ true → WasUp x
+raised-by-gone : (x : PortStanding) (w : Bool) → is_up (if w then record x { state = Down } else x).state ≡ true
+    → WasUp x
 raised-by-gone x true up = absurd (cc)
 raised-by-gone x false up = up
 
@@ -124,54 +139,71 @@ module _ (s : Settings) (p : ℕ) (v : Lists) (sent : List (List ℕ)) where
 
   -- what is to be shown of an outcome, where so much was sent since the port came up
   abbrev SentAfter : List (List ℕ) → Batch → Outcome → Type 0
-  SentAfter since b o = IsUpWith o.port o.port_calls → Each (IsSentIn (since ++ sent_by p b)) (outstanding (terms s) p (turned o.turn v).turns)
+  SentAfter since b o = IsUpWith o.port o.port_calls
+      → Each (IsSentIn (since ++ sent_by p b)) (outstanding (terms s) p (turned o.turn v).turns)
 
-  raised-if : (c : Bool) (cs : List PortCall) → (is_up (port_state s p (called cs (v.port_calls p))) ≡ true → IsUp) → is_up (port_state s p (if c then called cs (v.port_calls p) else v.port_calls p)) ≡ true → IsUp
+  raised-if : (c : Bool) (cs : List PortCall) → (is_up (port_state s p (called cs (v.port_calls p))) ≡ true → IsUp)
+      → is_up (port_state s p (if c then called cs (v.port_calls p) else v.port_calls p)) ≡ true → IsUp
   raised-if true cs own up = own up
   raised-if false cs own up = up
 
   still-sent : (b : Batch) → Prior → IsUp → Each (IsSentIn (sent ++ sent_by p b)) (outstanding (terms s) p v.turns)
-  still-sent b prior up = each-more (IsSentIn sent) (IsSentIn (sent ++ sent_by p b)) (outstanding (terms s) p v.turns) (among-left sent (sent_by p b)) (prior up)
+  still-sent b prior up = each-more (IsSentIn sent) (IsSentIn (sent ++ sent_by p b)) (outstanding (terms s) p v.turns)
+      (among-left sent (sent_by p b)) (prior up)
 
   -- an outcome of no turn, by which the port doesn't come up
-  quiet-sent : (b : Batch) (o : Outcome) → o.turn ≡ None → (IsUpWith o.port o.port_calls → IsUp) → Prior → SentAfter sent b o
+  quiet-sent : (b : Batch) (o : Outcome) → o.turn ≡ None → (IsUpWith o.port o.port_calls → IsUp) → Prior
+      → SentAfter sent b o
   quiet-sent b o none raised prior up =
-      subst (λ (t : Option OrderTurn). Each (IsSentIn (sent ++ sent_by p b)) (outstanding (terms s) p (turned t v).turns)) (sym none) (still-sent b prior (raised up))
+      subst (λ (t : Option OrderTurn). Each (IsSentIn (sent ++ sent_by p b))
+      (outstanding (terms s) p (turned t v).turns)) (sym none) (still-sent b prior (raised up))
 
   none-raised : (q : ℕ) → IsUpWith q [] → IsUp
   none-raised q up = raised-if (p == q) [] (λ is. is) up
 
   up-raised : (q at : ℕ) → IsUpWith q (OnUp at ∷ []) → IsUp
   unfolding port_state
-  up-raised q at up = raised-if (p == q) (OnUp at ∷ []) (raised-by-up (port_terms s p) (table.passed at (standing (port_terms s p) (v.port_calls p)))) up
+  up-raised q at up = raised-if (p == q) (OnUp at ∷ [])
+      (raised-by-up (port_terms s p) (table.passed at (standing (port_terms s p) (v.port_calls p)))) up
 
   tick-raised : (q at : ℕ) → IsUpWith q (OnTick at ∷ []) → IsUp
   unfolding port_state
-  tick-raised q at up = raised-if (p == q) (OnTick at ∷ []) (raised-by-tick (table.passed at (standing (port_terms s p) (v.port_calls p)))) up
+  tick-raised q at up = raised-if (p == q) (OnTick at ∷ [])
+      (raised-by-tick (table.passed at (standing (port_terms s p) (v.port_calls p)))) up
 
   gone-raised : (q : ℕ) → IsUpWith q (OnGone ∷ []) → IsUp
   unfolding port_state
-  gone-raised q up = raised-if (p == q) (OnGone ∷ []) (raised-by-gone (standing (port_terms s p) (v.port_calls p)) (is_open (standing (port_terms s p) (v.port_calls p)).state)) up
+  gone-raised q up = raised-if (p == q) (OnGone ∷ [])
+      (raised-by-gone (standing (port_terms s p) (v.port_calls p))
+      (is_open (standing (port_terms s p) (v.port_calls p)).state)) up
 
   sends-raised : (q at : ℕ) (ms : List (List ℕ)) → IsUpWith q (sends at ms) → IsUp
-  sends-raised q at ms up = raised-if (p == q) (sends at ms) (λ is. ap is_up (sym (state-sent s p at ms (v.port_calls p))) ∙ is) up
+  sends-raised q at ms up = raised-if (p == q) (sends at ms)
+      (λ is. ap is_up (sym (state-sent s p at ms (v.port_calls p))) ∙ is) up
 
   -- ---- a client's message
 
-  up-sends : (state : PortState) (P : Asked → List ℕ → Type 0) (asked_all : List Asked) (ms : List (List ℕ)) → is_up state ≡ true → Sends (stands_of state) P asked_all ms → EachWith P asked_all ms
+  up-sends : (state : PortState) (P : Asked → List ℕ → Type 0) (asked_all : List Asked) (ms : List (List ℕ))
+      → is_up state ≡ true → Sends (stands_of state) P asked_all ms → EachWith P asked_all ms
   up-sends Up P asked_all ms up pairs = pairs
   up-sends Down P asked_all ms up pairs = absurd (cc)
   up-sends LoggingIn P asked_all ms up pairs = absurd (cc)
   up-sends Ended P asked_all ms up pairs = absurd (cc)
   up-sends (Faulted fault) P asked_all ms up pairs = absurd (cc)
 
-  asks-elsewhere : (client : ℕ) (e : Option Entry) (entries : List Entry) (told : List Message) (market : List Outbound) → IsOf (λ (n : ℕ). n ≡ client) e → (port_of s client == p) ≡ false
+  asks-elsewhere : (client : ℕ) (e : Option Entry) (entries : List Entry) (told : List Message) (market : List Outbound)
+      → IsOf (λ (n : ℕ). n ≡ client) e → (port_of s client == p) ≡ false
       → asks_of (terms s) p e entries told market ≡ []
   asks-elsewhere client None entries told market own apart = refl
-  asks-elsewhere client (Some e) entries told market own apart = cond-false ((terms_of (terms s) e.client).port == p) _ _ (ap (λ (n : ℕ). (terms_of (terms s) n).port == p) own ∙ apart)
+  asks-elsewhere client (Some e) entries told market own apart =
+      cond-false ((terms_of (terms s) e.client).port == p) _ _
+      (ap (λ (n : ℕ). (terms_of (terms s) n).port == p) own ∙ apart)
 
-  named-sent : (b : Batch) (n : ℕ) (asked_all : List Asked) → b.port ≡ (if not ((length b.port_out == 0) && not (is_some b.fault)) then Some n else None) → Each (IsSentIn (messages b)) asked_all → Each (IsSentIn (sent_by n b)) asked_all
-  named-sent b n asked_all named each = subst (λ (ms : List (List ℕ)). Each (IsSentIn ms) asked_all) (sym (sent-all b.port_out (not (is_some b.fault)) n b.port named)) each
+  named-sent : (b : Batch) (n : ℕ) (asked_all : List Asked)
+      → b.port ≡ (if not ((length b.port_out == 0) && not (is_some b.fault)) then Some n else None)
+      → Each (IsSentIn (messages b)) asked_all → Each (IsSentIn (sent_by n b)) asked_all
+  named-sent b n asked_all named each = subst (λ (ms : List (List ℕ)). Each (IsSentIn ms) asked_all)
+      (sym (sent-all b.port_out (not (is_some b.fault)) n b.port named)) each
 
   -- the turn of a message that came, with what the batch says
   abbrev came : ℕ → Message → Batch → OrderTurn
@@ -185,53 +217,67 @@ module _ (s : Settings) (p : ℕ) (v : Lists) (sent : List (List ℕ)) where
 
   -- what the message asks of a port
   abbrev asked_on : ℕ → ℕ → Message → Batch → List Asked
-  asked_on q client m b = asks_of (terms s) q (entry_at (terms s) (came client m b).event v.turns) (accepted (terms s) v.turns) (issued client v.turns) (handled q v.turns)
+  asked_on q client m b = asks_of (terms s) q (entry_at (terms s) (came client m b).event v.turns)
+      (accepted (terms s) v.turns) (issued client v.turns) (handled q v.turns)
 
   abbrev NamesPort : ℕ → Batch → Type 0
   NamesPort n b = b.port ≡ (if not ((length b.port_out == 0) && not (is_some b.fault)) then Some n else None)
 
-  own-asked : (client : ℕ) (m : Message) (b : Batch) → NamesPort (port_of s client) b → Headline (terms s) (came client m b ∷ v.turns)
+  own-asked : (client : ℕ) (m : Message) (b : Batch) → NamesPort (port_of s client) b
+      → Headline (terms s) (came client m b ∷ v.turns)
       → is_up (port_state s (port_of s client) (v.port_calls (port_of s client))) ≡ true
       → Each (IsSentIn (sent_by (port_of s client) b)) (asked_on (port_of s client) client m b)
   own-asked client m b named holds up =
       named-sent b (port_of s client) (asked_on (port_of s client) client m b) named
       (each-said
-      (Says (terms_of (terms s) client).standing (order_number (terms s) (port_of s client) (accepted (terms s) (came client m b ∷ v.turns))))
+      (Says (terms_of (terms s) client).standing
+      (order_number (terms s) (port_of s client) (accepted (terms s) (came client m b ∷ v.turns))))
       (λ a message says. says.tokens)
       (asked_on (port_of s client) client m b)
       (messages b)
       (up-sends (port_state s (port_of s client) (v.port_calls (port_of s client))) _ _ _ up holds.0.answers.sends))
 
-  new-asked : (client : ℕ) (m : Message) (b : Batch) → NamesPort (port_of s client) b → Headline (terms s) (came client m b ∷ v.turns) → IsUp
+  new-asked : (client : ℕ) (m : Message) (b : Batch) → NamesPort (port_of s client) b
+      → Headline (terms s) (came client m b ∷ v.turns) → IsUp
       → Each (IsSentIn (sent_by p b)) (asked_on p client m b)
   new-asked client m b named holds up = by_port (cases_Bool (port_of s client == p))
     where
-      by_port : ((port_of s client == p) ≡ true) ⊎ ((port_of s client == p) ≡ false) → Each (IsSentIn (sent_by p b)) (asked_on p client m b)
+      by_port : ((port_of s client == p) ≡ true) ⊎ ((port_of s client == p) ≡ false)
+          → Each (IsSentIn (sent_by p b)) (asked_on p client m b)
       by_port (inl same) =
           let is : port_of s client ≡ p = eqb-true (port_of s client) p same in
           subst (λ (q : ℕ). Each (IsSentIn (sent_by q b)) (asked_on q client m b)) is
-          (own-asked client m b named holds (subst (λ (q : ℕ). is_up (port_state s q (v.port_calls q)) ≡ true) (sym is) up))
+          (own-asked client m b named holds (subst (λ (q : ℕ). is_up (port_state s q (v.port_calls q)) ≡ true)
+          (sym is) up))
       by_port (inr apart) =
           subst (Each (IsSentIn (sent_by p b)))
-          (sym (asks-elsewhere client (entry_at (terms s) (came client m b).event v.turns) _ _ _ (entry-of (λ (n : ℕ). n ≡ client) (terms s) v.turns (came client m b).event refl) apart))
+          (sym (asks-elsewhere client (entry_at (terms s) (came client m b).event v.turns) _ _ _
+          (entry-of (λ (n : ℕ). n ≡ client) (terms s) v.turns (came client m b).event refl) apart))
           tt
 
   app-sent : (client link at : ℕ) (frame : Message) (b : Batch) (app : Option AppMsg) → NamesPort (port_of s client) b
-      → Headline (terms s) (turned (by_app s client at frame b v app).turn v).turns → Prior → SentAfter sent b (by_app s client at frame b v app)
-  app-sent client link at frame b None named holds prior = quiet-sent b (by_app s client at frame b v None) refl (none-raised 0) prior
+      → Headline (terms s) (turned (by_app s client at frame b v app).turn v).turns → Prior
+      → SentAfter sent b (by_app s client at frame b v app)
+  app-sent client link at frame b None named holds prior =
+      quiet-sent b (by_app s client at frame b v None) refl (none-raised 0) prior
   app-sent client link at frame b (Some app) named holds prior = λ up.
       let is_up_before : IsUp = sends-raised (port_of s client) at (messages b) up in
       let m : Message = message_fields app in
       each-joined (IsSentIn (sent ++ sent_by p b)) (outstanding (terms s) p v.turns) (asked_on p client m b)
       (still-sent b prior is_up_before)
-      (each-more (IsSentIn (sent_by p b)) (IsSentIn (sent ++ sent_by p b)) (asked_on p client m b) (among-right sent (sent_by p b)) (new-asked client m b named holds is_up_before))
+      (each-more (IsSentIn (sent_by p b)) (IsSentIn (sent ++ sent_by p b)) (asked_on p client m b)
+      (among-right sent (sent_by p b)) (new-asked client m b named holds is_up_before))
 
   -- ---- a port's packet
 
-  heard-each : (P : Asked → Type 0) (q : ℕ) (heard : Result Outbound DecodeRefusal) (client : ℕ) (told : List Message) (fault : Option ℕ)
-      → Each P (outstanding (terms s) p v.turns) → Each P (outstanding (terms s) p (record { event = Heard q heard; client = client; bodies = told; sends = []; fault = fault } ∷ v.turns))
+  heard-each : (P : Asked → Type 0) (q : ℕ) (heard : Result Outbound DecodeRefusal) (client : ℕ) (told : List Message)
+      (fault : Option ℕ)
+      → Each P (outstanding (terms s) p v.turns)
+      → Each P (outstanding (terms s) p (record
+      { event = Heard q heard; client = client; bodies = told; sends = []; fault = fault } ∷ v.turns))
   heard-each P q (Err refusal) client told fault each = each-joined P _ [] each tt
-  heard-each P q (Ok m) client told None each = each-joined P _ [] (each-filtered P _ (outstanding (terms s) p v.turns) each) tt
+  heard-each P q (Ok m) client told None each =
+      each-joined P _ [] (each-filtered P _ (outstanding (terms s) p v.turns) each) tt
   heard-each P q (Ok m) client told (Some n) each = each-joined P _ [] each tt
 
   -- what was sent since the port came up, where it may come up by this event
@@ -242,23 +288,28 @@ module _ (s : Settings) (p : ℕ) (v : Lists) (sent : List (List ℕ)) where
   SentNow b earlier = Each (IsSentIn (earlier ++ sent_by p b)) (outstanding (terms s) p v.turns)
 
   -- the port's own state after a packet is that of the session's answer
-  answered-up : (packet : Packet) (at : ℕ) → is_up (port_state s p (OnPacket packet at ∷ v.port_calls p)) ≡ true → is_up (port_answer s p (v.port_calls p) (OnPacket packet at)).after.state ≡ true
+  answered-up : (packet : Packet) (at : ℕ) → is_up (port_state s p (OnPacket packet at ∷ v.port_calls p)) ≡ true
+      → is_up (port_answer s p (v.port_calls p) (OnPacket packet at)).after.state ≡ true
   unfolding port_state port_answer
   answered-up packet at up = up
 
   -- it comes up: all that is outstanding is sent
-  comes-sent : (q link at : ℕ) (packet : Packet) (b : Batch) → NamesPort q b → Asks s (PortPacket q link at packet) b v → is_stepped s (PortPacket q link at packet) v ≡ true
+  comes-sent : (q link at : ℕ) (packet : Packet) (b : Batch) → NamesPort q b → Asks s (PortPacket q link at packet) b v
+      → is_stepped s (PortPacket q link at packet) v ≡ true
       → comes_up s (PortPacket q link at packet) v ≡ true → q ≡ p → SentNow b []
   comes-sent q link at packet b named asks stepped comes same =
       subst (λ (n : ℕ). Each (IsSentIn (sent_by n b)) (outstanding (terms s) n v.turns)) same
       (named-sent b q (outstanding (terms s) q v.turns) named
-      (each-said (SaysIn (terms s) v.turns q) (λ a message says. says.tokens) (outstanding (terms s) q v.turns) (messages b)
-      (subst (λ (w : Bool). AsksAgain w s q (is_stepped s (PortPacket q link at packet) v && delivers_message s (PortPacket q link at packet) v) b v) both asks)))
+      (each-said (SaysIn (terms s) v.turns q) (λ a message says. says.tokens) (outstanding (terms s) q v.turns)
+      (messages b)
+      (subst (λ (w : Bool). AsksAgain w s q (is_stepped s (PortPacket q link at packet) v
+      && delivers_message s (PortPacket q link at packet) v) b v) both asks)))
     where
       both : (is_stepped s (PortPacket q link at packet) v && comes_up s (PortPacket q link at packet) v) ≡ true
       both = rw (stepped, comes) refl
 
-  packet-sent : (q link at : ℕ) (packet : Packet) (b : Batch) → NamesPort q b → Asks s (PortPacket q link at packet) b v → is_stepped s (PortPacket q link at packet) v ≡ true → Prior
+  packet-sent : (q link at : ℕ) (packet : Packet) (b : Batch) → NamesPort q b → Asks s (PortPacket q link at packet) b v
+      → is_stepped s (PortPacket q link at packet) v ≡ true → Prior
       → IsUpWith q (OnPacket packet at ∷ []) → SentNow b (since (PortPacket q link at packet))
   packet-sent q link at packet b named asks stepped prior up = by_port (cases_Bool (q == p))
     where
@@ -274,24 +325,35 @@ module _ (s : Settings) (p : ℕ) (v : Lists) (sent : List (List ℕ)) where
 
       by_port : ((q == p) ≡ true) ⊎ ((q == p) ≡ false) → SentNow b (since e)
       by_port (inr apart) =
-          by_brings false (ap (λ (x : Bool). comes_up s e v && (x && is_stepped s e v)) apart ∙ never (comes_up s e v) (is_stepped s e v))
-          (still-sent b prior (ap (λ (calls : List PortCall). is_up (port_state s p calls)) (sym (cond-false (p == q) _ _ (ne_eqb p q (λ same. eqb-false q p apart (sym same))))) ∙ up))
+          by_brings false (ap (λ (x : Bool). comes_up s e v && (x && is_stepped s e v)) apart
+          ∙ never (comes_up s e v) (is_stepped s e v))
+          (still-sent b prior (ap (λ (calls : List PortCall). is_up (port_state s p calls))
+          (sym (cond-false (p == q) _ _ (ne_eqb p q (λ same. eqb-false q p apart (sym same))))) ∙ up))
       by_port (inl same) = by_before (cases_Bool (is_up (port_state s q (v.port_calls q))))
         where
           is : q ≡ p
           is = eqb-true q p same
 
-          by_before : (is_up (port_state s q (v.port_calls q)) ≡ true) ⊎ (is_up (port_state s q (v.port_calls q)) ≡ false) → SentNow b (since e)
+          by_before : (is_up (port_state s q (v.port_calls q)) ≡ true) ⊎
+              (is_up (port_state s q (v.port_calls q)) ≡ false) → SentNow b (since e)
           by_before (inl was) =
-              by_brings false (ap (λ (x : Bool). (not x && is_up (port_answer s q (v.port_calls q) (OnPacket packet at)).after.state) && ((q == p) && is_stepped s e v)) was)
+              by_brings false (ap (λ (x : Bool). (not x
+              && is_up (port_answer s q (v.port_calls q) (OnPacket packet at)).after.state)
+              && ((q == p) && is_stepped s e v)) was)
               (still-sent b prior (subst (λ (n : ℕ). is_up (port_state s n (v.port_calls n)) ≡ true) is was))
           by_before (inr was_not) = by_brings true brings (comes-sent q link at packet b named asks stepped comes is)
             where
               now : is_up (port_state s p (OnPacket packet at ∷ v.port_calls p)) ≡ true
-              now = ap (λ (calls : List PortCall). is_up (port_state s p calls)) (sym (cond-true (p == q) _ _ (eq-eqb p q (sym is)))) ∙ up
+              now = ap (λ (calls : List PortCall). is_up (port_state s p calls))
+                  (sym (cond-true (p == q) _ _ (eq-eqb p q (sym is)))) ∙ up
 
               comes : comes_up s e v ≡ true
-              comes = rw (was_not, subst (λ (n : ℕ). is_up (port_answer s n (v.port_calls n) (OnPacket packet at)).after.state ≡ true) (sym is) (answered-up packet at now)) refl
+              comes = rw (
+                was_not,
+                subst (λ (n : ℕ). is_up
+                    (port_answer s n (v.port_calls n) (OnPacket packet at)).after.state ≡ true) (sym is)
+                    (answered-up packet at now),
+              ) refl
 
               brings : brings_up s p e v ≡ true
               brings = rw (comes, same, stepped) refl
@@ -300,36 +362,49 @@ module _ (s : Settings) (p : ℕ) (v : Lists) (sent : List (List ℕ)) where
   behind-up : (q : ℕ) (c : PortCall) (at : ℕ) (ms : List (List ℕ)) → IsUpWith q (c ∷ sends at ms) → IsUpWith q (c ∷ [])
   behind-up q c at ms up = by_port (p == q) up
     where
-      by_port : (w : Bool) → is_up (port_state s p (if w then called (c ∷ sends at ms) (v.port_calls p) else v.port_calls p)) ≡ true → is_up (port_state s p (if w then called (c ∷ []) (v.port_calls p) else v.port_calls p)) ≡ true
+      by_port : (w : Bool) → is_up (port_state s p
+          (if w then called (c ∷ sends at ms) (v.port_calls p) else v.port_calls p)) ≡ true
+          → is_up (port_state s p (if w then called (c ∷ []) (v.port_calls p) else v.port_calls p)) ≡ true
       by_port true is = ap is_up (sym (state-sent s p at ms (c ∷ v.port_calls p))) ∙ is
       by_port false is = is
 
-  behind-fault : (q : ℕ) (packet : Packet) (at : ℕ) (fault : PortFault) → IsUpWith q (OnPacket packet at ∷ Fail fault ∷ []) → IsUpWith q (OnPacket packet at ∷ [])
+  behind-fault : (q : ℕ) (packet : Packet) (at : ℕ) (fault : PortFault)
+      → IsUpWith q (OnPacket packet at ∷ Fail fault ∷ []) → IsUpWith q (OnPacket packet at ∷ [])
   unfolding port_state
   behind-fault q packet at fault up = by_port (p == q) up
     where
-      by_port : (w : Bool) → is_up (port_state s p (if w then called (OnPacket packet at ∷ Fail fault ∷ []) (v.port_calls p) else v.port_calls p)) ≡ true
-          → is_up (port_state s p (if w then called (OnPacket packet at ∷ []) (v.port_calls p) else v.port_calls p)) ≡ true
+      by_port : (w : Bool) → is_up (port_state s p
+          (if w then called (OnPacket packet at ∷ Fail fault ∷ []) (v.port_calls p) else v.port_calls p)) ≡ true
+          → is_up (port_state s p (if w then called (OnPacket packet at ∷ []) (v.port_calls p) else v.port_calls p))
+          ≡ true
       by_port true is = absurd (cc)
       by_port false is = is
 
-  payload-sent : (q link at : ℕ) (packet : Packet) (b : Batch) (a : PortAnswer) (payload : Option (List ℕ)) → NamesPort q b → Asks s (PortPacket q link at packet) b v
-      → is_stepped s (PortPacket q link at packet) v ≡ true → Prior → SentAfter (since (PortPacket q link at packet)) b (by_payload q at packet b a payload)
-  payload-sent q link at packet b a None named asks stepped prior = λ up. packet-sent q link at packet b named asks stepped prior (behind-up q (OnPacket packet at) at (messages b) up)
+  payload-sent : (q link at : ℕ) (packet : Packet) (b : Batch) (a : PortAnswer) (payload : Option (List ℕ))
+      → NamesPort q b → Asks s (PortPacket q link at packet) b v
+      → is_stepped s (PortPacket q link at packet) v ≡ true → Prior
+      → SentAfter (since (PortPacket q link at packet)) b (by_payload q at packet b a payload)
+  payload-sent q link at packet b a None named asks stepped prior =
+      λ up. packet-sent q link at packet b named asks stepped prior
+      (behind-up q (OnPacket packet at) at (messages b) up)
   payload-sent q link at packet b a (Some payload) named asks stepped prior = by_fault_of b.fault
     where
       now : List (List ℕ)
       now = since (PortPacket q link at packet) ++ sent_by p b
 
-      by_fault_of : (fault : Option PortFault) → SentAfter (since (PortPacket q link at packet)) b (record (by_fault q at packet b fault) { turn = (told_outcome q at packet b payload).turn })
+      by_fault_of : (fault : Option PortFault) → SentAfter (since (PortPacket q link at packet)) b
+          (record (by_fault q at packet b fault) { turn = (told_outcome q at packet b payload).turn })
       by_fault_of None up =
-          heard-each (IsSentIn now) q (decoded payload) (addressee b) (bodies b) (option_map fault_number b.fault) (packet-sent q link at packet b named asks stepped prior up)
+          heard-each (IsSentIn now) q (decoded payload) (addressee b) (bodies b) (option_map fault_number b.fault)
+          (packet-sent q link at packet b named asks stepped prior up)
       by_fault_of (Some fault) up =
-          heard-each (IsSentIn now) q (decoded payload) (addressee b) (bodies b) (option_map fault_number b.fault) (packet-sent q link at packet b named asks stepped prior (behind-fault q packet at fault up))
+          heard-each (IsSentIn now) q (decoded payload) (addressee b) (bodies b) (option_map fault_number b.fault)
+          (packet-sent q link at packet b named asks stepped prior (behind-fault q packet at fault up))
 
   -- ---- an event
 
-  event-sent : (e : Event) (b : Batch) → Gives s e b v → Asks s e b v → is_stepped s e v ≡ true → Headline (terms s) (turned (by_event s e b v).turn v).turns → Prior
+  event-sent : (e : Event) (b : Batch) → Gives s e b v → Asks s e b v → is_stepped s e v ≡ true
+      → Headline (terms s) (turned (by_event s e b v).turn v).turns → Prior
       → SentAfter (since e) b (by_event s e b v)
   event-sent (ClientUp client link at) b g asks stepped holds prior = by_link (v.client_link client)
     where
@@ -341,9 +416,12 @@ module _ (s : Settings) (p : ℕ) (v : Lists) (sent : List (List ℕ)) where
           by_number true = quiet-sent b nothing refl (none-raised 0) prior
           by_number false = quiet-sent b (of_client client (Refused link) []) refl (none-raised 0) prior
   event-sent (ClientMessage client link at frame) b g asks stepped holds prior =
-      app-sent client link at frame b (client_answer s client (v.client_calls client) (at, OnMessage frame)).app g.port holds prior
-  event-sent (ClientGone client link at) b g asks stepped holds prior = quiet-sent b (by_event s (ClientGone client link at) b v) refl (none-raised 0) prior
-  event-sent (ClientTick client at) b g asks stepped holds prior = quiet-sent b (by_event s (ClientTick client at) b v) refl (none-raised 0) prior
+      app-sent client link at frame b (client_answer s client (v.client_calls client) (at, OnMessage frame)).app g.port
+      holds prior
+  event-sent (ClientGone client link at) b g asks stepped holds prior =
+      quiet-sent b (by_event s (ClientGone client link at) b v) refl (none-raised 0) prior
+  event-sent (ClientTick client at) b g asks stepped holds prior =
+      quiet-sent b (by_event s (ClientTick client at) b v) refl (none-raised 0) prior
   event-sent (PortUp q link at) b g asks stepped holds prior = by_link (v.port_link q)
     where
       by_link : (current : Option ℕ) → SentAfter sent b (port_up q link at current)
@@ -354,21 +432,27 @@ module _ (s : Settings) (p : ℕ) (v : Lists) (sent : List (List ℕ)) where
           by_number true = quiet-sent b nothing refl (none-raised 0) prior
           by_number false = quiet-sent b (of_port q (Refused link) []) refl (none-raised q) prior
   event-sent (PortPacket q link at packet) b g asks stepped holds prior =
-      payload-sent q link at packet b (port_answer s q (v.port_calls q) (OnPacket packet at)) (port_answer s q (v.port_calls q) (OnPacket packet at)).payload g.port asks stepped prior
-  event-sent (PortGone q link at) b g asks stepped holds prior = quiet-sent b (by_event s (PortGone q link at) b v) refl (gone-raised q) prior
-  event-sent (PortTick q at) b g asks stepped holds prior = quiet-sent b (by_event s (PortTick q at) b v) refl (tick-raised q at) prior
+      payload-sent q link at packet b (port_answer s q (v.port_calls q) (OnPacket packet at))
+      (port_answer s q (v.port_calls q) (OnPacket packet at)).payload g.port asks stepped prior
+  event-sent (PortGone q link at) b g asks stepped holds prior =
+      quiet-sent b (by_event s (PortGone q link at) b v) refl (gone-raised q) prior
+  event-sent (PortTick q at) b g asks stepped holds prior =
+      quiet-sent b (by_event s (PortTick q at) b v) refl (tick-raised q at) prior
 
-  stepped-sent : (e : Event) (b : Batch) → Gives s e b v → Asks s e b v → Headline (terms s) (turned (outcome s e b v).turn v).turns → Prior → SentAfter (since e) b (outcome s e b v)
+  stepped-sent : (e : Event) (b : Batch) → Gives s e b v → Asks s e b v
+      → Headline (terms s) (turned (outcome s e b v).turn v).turns → Prior → SentAfter (since e) b (outcome s e b v)
   stepped-sent e b g asks holds prior = by_step (cases_Bool (is_stepped s e v))
     where
       by_step : (is_stepped s e v ≡ true) ⊎ (is_stepped s e v ≡ false) → SentAfter (since e) b (outcome s e b v)
       by_step (inl stepped) =
           let is : outcome s e b v ≡ by_event s e b v = cond-true (is_stepped s e v) _ _ stepped in
           subst (SentAfter (since e) b) (sym is)
-          (event-sent e b g asks stepped (subst (λ (o : Outcome). Headline (terms s) (turned o.turn v).turns) is holds) prior)
+          (event-sent e b g asks stepped (subst (λ (o : Outcome). Headline (terms s) (turned o.turn v).turns) is holds)
+          prior)
       by_step (inr stays) =
           subst (SentAfter (since e) b) (sym (cond-false (is_stepped s e v) _ _ stays))
-          (subst (λ (w : Bool). SentAfter (if w then [] else sent) b nothing) (sym none) (quiet-sent b nothing refl (none-raised 0) prior))
+          (subst (λ (w : Bool). SentAfter (if w then [] else sent) b nothing) (sym none)
+          (quiet-sent b nothing refl (none-raised 0) prior))
         where
           never : (c d : Bool) → (c && (d && false)) ≡ false
           never true true = refl
@@ -376,14 +460,19 @@ module _ (s : Settings) (p : ℕ) (v : Lists) (sent : List (List ℕ)) where
           never false d = refl
 
           none : brings_up s p e v ≡ false
-          none = ap (λ (w : Bool). comes_up s e v && ((port_in e == p) && w)) stays ∙ never (comes_up s e v) (port_in e == p)
+          none = ap (λ (w : Bool). comes_up s e v && ((port_in e == p) && w)) stays
+              ∙ never (comes_up s e v) (port_in e == p)
 
   -- the lists after an event
-  after-sent : (e : Event) (b : Batch) → Gives s e b v → Asks s e b v → Headline (terms s) (lists_after s e b v).turns → Prior
-      → is_up (port_state s p ((lists_after s e b v).port_calls p)) ≡ true → Each (IsSentIn (since e ++ sent_by p b)) (outstanding (terms s) p (lists_after s e b v).turns)
+  after-sent : (e : Event) (b : Batch) → Gives s e b v → Asks s e b v → Headline (terms s) (lists_after s e b v).turns
+      → Prior
+      → is_up (port_state s p ((lists_after s e b v).port_calls p)) ≡ true
+      → Each (IsSentIn (since e ++ sent_by p b)) (outstanding (terms s) p (lists_after s e b v).turns)
   after-sent e b g asks holds prior up =
-      subst (λ (turns : OrderHistory). Each (IsSentIn (since e ++ sent_by p b)) (outstanding (terms s) p turns)) (sym turns)
-      (stepped-sent e b g asks (subst (Headline (terms s)) turns holds) prior (ap (λ (cs : List PortCall). is_up (port_state s p cs)) (sym calls) ∙ up))
+      subst (λ (turns : OrderHistory). Each (IsSentIn (since e ++ sent_by p b)) (outstanding (terms s) p turns))
+      (sym turns)
+      (stepped-sent e b g asks (subst (Headline (terms s)) turns holds) prior
+      (ap (λ (cs : List PortCall). is_up (port_state s p cs)) (sym calls) ∙ up))
     where
       o : Outcome
       o = outcome s e b v
@@ -394,7 +483,8 @@ module _ (s : Settings) (p : ℕ) (v : Lists) (sent : List (List ℕ)) where
       calls : (lists_after s e b v).port_calls p ≡ calls_with o.port o.port_calls
       calls = by_port (cases_Bool (p == o.port))
         where
-          by_port : ((p == o.port) ≡ true) ⊎ ((p == o.port) ≡ false) → (lists_after s e b v).port_calls p ≡ calls_with o.port o.port_calls
+          by_port : ((p == o.port) ≡ true) ⊎ ((p == o.port) ≡ false)
+              → (lists_after s e b v).port_calls p ≡ calls_with o.port o.port_calls
           by_port (inl same) = own-calls o b v p same ∙ sym (cond-true (p == o.port) _ _ same)
           by_port (inr apart) = other-calls o b v p apart ∙ sym (cond-false (p == o.port) _ _ apart)
 
@@ -405,21 +495,29 @@ unfolding port_state
 never-up s p up = cc
 
 -- the headline of the turns before an outcome's
-before-turned : (ts : List Terms) (t : Option OrderTurn) (v : Lists) → Headline ts (turned t v).turns → Headline ts v.turns
+before-turned : (ts : List Terms) (t : Option OrderTurn) (v : Lists) → Headline ts (turned t v).turns
+    → Headline ts v.turns
 before-turned ts None v holds = holds
 before-turned ts (Some t) v holds = holds.1
 
-before-headline : (s : Settings) (t : Turn) (before : History) → Headline (terms s) (order_turns s (t ∷ before)) → Headline (terms s) (order_turns s before)
+before-headline : (s : Settings) (t : Turn) (before : History) → Headline (terms s) (order_turns s (t ∷ before))
+    → Headline (terms s) (order_turns s before)
 before-headline s t before holds = by_limit (is_within_day before) holds
   where
-    by_limit : (w : Bool) → Headline (terms s) (if w then lists_after s t.event t.batch (lists s before) else lists s before).turns → Headline (terms s) (lists s before).turns
-    by_limit true h = before-turned (terms s) (outcome s t.event t.batch (lists s before)).turn (lists s before) (subst (Headline (terms s)) (turns-after (outcome s t.event t.batch (lists s before)) t.batch (lists s before)) h)
+    by_limit : (w : Bool) → Headline (terms s)
+        (if w then lists_after s t.event t.batch (lists s before) else lists s before).turns
+        → Headline (terms s) (lists s before).turns
+    by_limit true h = before-turned (terms s) (outcome s t.event t.batch (lists s before)).turn (lists s before)
+        (subst (Headline (terms s)) (turns-after (outcome s t.event t.batch (lists s before)) t.batch (lists s before))
+        h)
     by_limit false h = h
 
-pub all-sent : (s : Settings) (h : History) → IsRun s h → EachTurn s (Asks s) h → Headline (terms s) (order_turns s h) → (p : ℕ) → AllSent s p h
+pub all-sent : (s : Settings) (h : History) → IsRun s h → EachTurn s (Asks s) h → Headline (terms s) (order_turns s h)
+    → (p : ℕ) → AllSent s p h
 all-sent s [] run asks holds p = λ up. absurd (never-up s p up)
 all-sent s (t ∷ before) run asks holds p =
-    by_limit (is_within_day before) run.0 asks.0 holds (all-sent s before run.1 asks.1 (before-headline s t before holds) p)
+    by_limit (is_within_day before) run.0 asks.0 holds
+    (all-sent s before run.1 asks.1 (before-headline s t before holds) p)
   where
     v : Lists
     v = lists s before

@@ -45,10 +45,12 @@ among-target : (named target : Option ℕ) → target ≡ Some (unwrap_or named 
 among-target None target is = tt
 among-target (Some n) target is = is
 
-no-client : (b : Batch) (n : ℕ) → b.client ≡ (if is_for_client b then Some n else None) → b.reports ≡ [] → b.client_out ≡ [] → b.client ≡ None
+no-client : (b : Batch) (n : ℕ) → b.client ≡ (if is_for_client b then Some n else None) → b.reports ≡ []
+    → b.client_out ≡ [] → b.client ≡ None
 no-client b n named reports lines = named ∙ rw (reports, lines) refl
 
-no-port : (b : Batch) (n : ℕ) → b.port ≡ (if is_for_port b then Some n else None) → b.port_out ≡ [] → b.fault ≡ None → b.port ≡ None
+no-port : (b : Batch) (n : ℕ) → b.port ≡ (if is_for_port b then Some n else None) → b.port_out ≡ [] → b.fault ≡ None
+    → b.port ≡ None
 no-port b n named lines fault = named ∙ rw (lines, fault) refl
 
 -- ---- outcomes of one side
@@ -63,24 +65,30 @@ pub record NoPort (s : Settings) (v : Lists) (o : Outcome) : Type 0 where
   pub lines : to_port_of s o v ≡ []
   pub fault : o.fault ≡ None
 
-no-client-if : (s : Settings) (v : Lists) (c : Bool) (x y : Outcome) → NoClient s v x → NoClient s v y → NoClient s v (if c then x else y)
+no-client-if : (s : Settings) (v : Lists) (c : Bool) (x y : Outcome) → NoClient s v x → NoClient s v y
+    → NoClient s v (if c then x else y)
 no-client-if s v true x y p q = p
 no-client-if s v false x y p q = q
 
-no-port-if : (s : Settings) (v : Lists) (c : Bool) (x y : Outcome) → NoPort s v x → NoPort s v y → NoPort s v (if c then x else y)
+no-port-if : (s : Settings) (v : Lists) (c : Bool) (x y : Outcome) → NoPort s v x → NoPort s v y
+    → NoPort s v (if c then x else y)
 no-port-if s v true x y p q = p
 no-port-if s v false x y p q = q
 
 -- ---- whom a payload is for
 
 -- what is told of a payload is told to the client whose order its token leads to
-token-tells : (ts : List Terms) (p : ℕ) (m : Result Outbound DecodeRefusal) (before : orders.OrderHistory) (client : ℕ) (said : List Message)
+token-tells : (ts : List Terms) (p : ℕ) (m : Result Outbound DecodeRefusal) (before : orders.OrderHistory) (client : ℕ)
+    (said : List Message)
     → told_by_market ts p m before ≡ record { client = client; bodies = said }
     → (said ≡ []) ⊎ (option_map (λ (new : Entry). new.client) (on_token ts p before (token_of_heard m)) ≡ Some client)
 token-tells ts p (Err refusal) before client said is = inl (sym (ap (λ (t : tale.Told). t.bodies) is))
-token-tells ts p (Ok m) before client said is = by_row (is_some (judgement ts p (Ok m) before)) (on_token ts p before (order_token m)) is
+token-tells ts p (Ok m) before client said is =
+    by_row (is_some (judgement ts p (Ok m) before)) (on_token ts p before (order_token m)) is
   where
-    by_bodies : (new : Entry) (bs : List Message) → tale.told_of_entry new bs ≡ record { client = client; bodies = said } → (said ≡ []) ⊎ (Some new.client ≡ Some client)
+    by_bodies : (new : Entry) (bs : List Message)
+        → tale.told_of_entry new bs ≡ record { client = client; bodies = said }
+        → (said ≡ []) ⊎ (Some new.client ≡ Some client)
     by_bodies new [] is = inl (sym (ap (λ (t : tale.Told). t.bodies) is))
     by_bodies new (r ∷ rs) is = inr (ap (λ (t : tale.Told). Some t.client) is)
 
@@ -89,7 +97,8 @@ token-tells ts p (Ok m) before client said is = by_row (is_some (judgement ts p 
     by_order None is = inl (sym (ap (λ (t : tale.Told). t.bodies) is))
     by_order (Some new) is = by_bodies new _ is
 
-    by_row : (w : Bool) (found : Option Entry) → (if w then nobody else told_on ts p m before found) ≡ record { client = client; bodies = said }
+    by_row : (w : Bool) (found : Option Entry)
+        → (if w then nobody else told_on ts p m before found) ≡ record { client = client; bodies = said }
         → (said ≡ []) ⊎ (option_map (λ (new : Entry). new.client) found ≡ Some client)
     by_row true found is = inl (sym (ap (λ (t : tale.Told). t.bodies) is))
     by_row false found is = by_order found is
@@ -98,7 +107,8 @@ no-bodies : (reports : List Message) → map body_of reports ≡ [] → reports 
 no-bodies [] e = refl
 no-bodies (r ∷ rs) e = absurd (cc)
 
-module _ (s : Settings) (p link at : ℕ) (packet : Packet) (b : Batch) (v : Lists) (g : Gives s (PortPacket p link at packet) b v)
+module _ (s : Settings) (p link at : ℕ) (packet : Packet) (b : Batch) (v : Lists)
+    (g : Gives s (PortPacket p link at packet) b v)
     (turns : Headline (terms s) (turned (outcome s (PortPacket p link at packet) b v).turn v).turns) where
   nobody-named : (o : Outcome) → outcome s (PortPacket p link at packet) b v ≡ o → NoClient s v o → b.client ≡ None
   nobody-named o is none =
@@ -107,10 +117,12 @@ module _ (s : Settings) (p link at : ℕ) (packet : Packet) (b : Batch) (v : Lis
       (g.client_out ∙ ap (λ (x : Outcome). to_client_of s x v) is ∙ none.lines)
 
   -- the payload is at fault, or it is told
-  payload-target : (payload : List ℕ) (fault : Option PortFault) → b.fault ≡ fault → outcome s (PortPacket p link at packet) b v ≡ told_outcome p at packet b payload
+  payload-target : (payload : List ℕ) (fault : Option PortFault) → b.fault ≡ fault
+      → outcome s (PortPacket p link at packet) b v ≡ told_outcome p at packet b payload
       → IsAmong b.client (by_token s p (Some payload) v)
   payload-target payload (Some n) at_fault is =
-      among-none b.client _ (nobody-named _ (is ∙ told-outcome p at packet b payload (Some n) at_fault) (record { reports = refl; lines = no-client-lines s 0 (v.client_link 0) }))
+      among-none b.client _ (nobody-named _ (is ∙ told-outcome p at packet b payload (Some n) at_fault)
+      (record { reports = refl; lines = no-client-lines s 0 (v.client_link 0) }))
   payload-target payload None lawful is =
       let kept = subst (λ (o : Outcome). Headline (terms s) (turned o.turn v).turns) is turns in
       by_said (token-tells (terms s) p (decoded payload) v.turns (addressee b) (bodies b) kept.0.tells)
@@ -121,53 +133,71 @@ module _ (s : Settings) (p link at : ℕ) (packet : Packet) (b : Batch) (v : Lis
       quiet : bodies b ≡ [] → b.client ≡ None
       quiet none = no-client b (addressee b) g.client (no-bodies b.reports none)
           (g.client_out ∙ ap (λ (x : Outcome). to_client_of s x v) (is ∙ told-outcome p at packet b payload None lawful)
-          ∙ ap (λ (said : List Message). to_client s c (v.client_link c) (client_outs s c (v.client_calls c) (issues at said))) none
+          ∙ ap (λ (said : List Message). to_client s c (v.client_link c)
+          (client_outs s c (v.client_calls c) (issues at said))) none
           ∙ no-client-lines s c (v.client_link c))
 
-      by_said : (bodies b ≡ []) ⊎ (by_token s p (Some payload) v ≡ Some (addressee b)) → IsAmong b.client (by_token s p (Some payload) v)
+      by_said : (bodies b ≡ []) ⊎ (by_token s p (Some payload) v ≡ Some (addressee b))
+          → IsAmong b.client (by_token s p (Some payload) v)
       by_said (inl none) = among-none b.client _ (quiet none)
       by_said (inr is_for) = among-target b.client _ is_for
 
   packet-target : IsAmong b.client (client_target s (PortPacket p link at packet) v)
   packet-target = by_step (cases_Bool (is_stepped s (PortPacket p link at packet) v))
     where
-      by_answer : is_stepped s (PortPacket p link at packet) v ≡ true → (payload : Option (List ℕ)) → (port_answer s p (v.port_calls p) (OnPacket packet at)).payload ≡ payload → IsAmong b.client (by_token s p payload v)
-      by_answer is None has = among-none b.client None (nobody-named _ (packet-outcome s p link at packet b v None is has) (record { reports = refl; lines = no-client-lines s 0 (v.client_link 0) }))
-      by_answer is (Some payload) has = payload-target payload b.fault refl (packet-outcome s p link at packet b v (Some payload) is has)
+      by_answer : is_stepped s (PortPacket p link at packet) v ≡ true → (payload : Option (List ℕ))
+          → (port_answer s p (v.port_calls p) (OnPacket packet at)).payload ≡ payload
+          → IsAmong b.client (by_token s p payload v)
+      by_answer is None has = among-none b.client None
+          (nobody-named _ (packet-outcome s p link at packet b v None is has)
+          (record { reports = refl; lines = no-client-lines s 0 (v.client_link 0) }))
+      by_answer is (Some payload) has = payload-target payload b.fault refl
+          (packet-outcome s p link at packet b v (Some payload) is has)
 
-      by_step : (is_stepped s (PortPacket p link at packet) v ≡ true) ⊎ (is_stepped s (PortPacket p link at packet) v ≡ false) → IsAmong b.client (client_target s (PortPacket p link at packet) v)
+      by_step : (is_stepped s (PortPacket p link at packet) v ≡ true) ⊎
+          (is_stepped s (PortPacket p link at packet) v ≡ false)
+          → IsAmong b.client (client_target s (PortPacket p link at packet) v)
       by_step (inl is) = by_answer is (port_answer s p (v.port_calls p) (OnPacket packet at)).payload refl
-      by_step (inr none) = among-none b.client _ (nobody-named nothing (no-outcome s (PortPacket p link at packet) b v none) (record { reports = refl; lines = no-client-lines s 0 (v.client_link 0) }))
+      by_step (inr none) = among-none b.client _
+          (nobody-named nothing (no-outcome s (PortPacket p link at packet) b v none)
+          (record { reports = refl; lines = no-client-lines s 0 (v.client_link 0) }))
 
 -- ---- by event
 
 module _ (s : Settings) (b : Batch) (v : Lists) where
   -- an event of a port but a packet says nothing to clients
-  of-port : (e : Event) → Gives s e b v → client_named e b ≡ addressee b → NoClient s v (by_event s e b v) → b.client ≡ None
+  of-port : (e : Event) → Gives s e b v → client_named e b ≡ addressee b → NoClient s v (by_event s e b v)
+      → b.client ≡ None
   of-port e g named none =
-      let all = no-client-if s v (is_stepped s e v) _ nothing none (record { reports = refl; lines = no-client-lines s 0 (v.client_link 0) }) in
+      let all = no-client-if s v (is_stepped s e v) _ nothing none
+      (record { reports = refl; lines = no-client-lines s 0 (v.client_link 0) }) in
       no-client b (client_named e b) g.client (g.reports ∙ all.reports) (g.client_out ∙ all.lines)
 
   -- one of a client but a frame nothing to ports
   of-client : (e : Event) → Gives s e b v → NoPort s v (by_event s e b v) → b.port ≡ None
   of-client e g none =
-      let all = no-port-if s v (is_stepped s e v) _ nothing none (record { lines = no-port-lines (v.port_link 0); fault = refl }) in
+      let all = no-port-if s v (is_stepped s e v) _ nothing none
+      (record { lines = no-port-lines (v.port_link 0); fault = refl }) in
       no-port b (port_named s e) g.port (g.port_out ∙ all.lines) (g.fault ∙ all.fault)
 
   client-up-alone : (client link at : ℕ) (current : Option ℕ) → NoPort s v (client_up client link at current)
   client-up-alone client link at None = record { lines = no-port-lines (v.port_link 0); fault = refl }
   client-up-alone client link at (Some n) =
-      no-port-if s v (n == link) _ _ (record { lines = no-port-lines (v.port_link 0); fault = refl }) (record { lines = no-port-lines (v.port_link 0); fault = refl })
+      no-port-if s v (n == link) _ _ (record { lines = no-port-lines (v.port_link 0); fault = refl })
+      (record { lines = no-port-lines (v.port_link 0); fault = refl })
 
   port-up-alone : (p link at : ℕ) (current : Option ℕ) → NoClient s v (port_up p link at current)
   port-up-alone p link at None = record { reports = refl; lines = no-client-lines s 0 (v.client_link 0) }
   port-up-alone p link at (Some n) =
-      no-client-if s v (n == link) _ _ (record { reports = refl; lines = no-client-lines s 0 (v.client_link 0) }) (record { reports = refl; lines = no-client-lines s 0 (v.client_link 0) })
+      no-client-if s v (n == link) _ _ (record { reports = refl; lines = no-client-lines s 0 (v.client_link 0) })
+      (record { reports = refl; lines = no-client-lines s 0 (v.client_link 0) })
 
-  pub targets-kept : (e : Event) → Gives s e b v → Headline (terms s) (turned (outcome s e b v).turn v).turns → Targets s e b v
+  pub targets-kept : (e : Event) → Gives s e b v → Headline (terms s) (turned (outcome s e b v).turn v).turns
+      → Targets s e b v
   targets-kept (ClientUp client link at) g turns = record {
     client = among-due (is_for_client b) client b.client g.client;
-    port = among-none b.port None (of-client (ClientUp client link at) g (client-up-alone client link at (v.client_link client)));
+    port = among-none b.port None (of-client (ClientUp client link at) g
+        (client-up-alone client link at (v.client_link client)));
   }
   targets-kept (ClientMessage client link at frame) g turns = record {
     client = among-due (is_for_client b) client b.client g.client;
@@ -175,11 +205,13 @@ module _ (s : Settings) (b : Batch) (v : Lists) where
   }
   targets-kept (ClientGone client link at) g turns = record {
     client = among-due (is_for_client b) client b.client g.client;
-    port = among-none b.port None (of-client (ClientGone client link at) g (record { lines = no-port-lines (v.port_link 0); fault = refl }));
+    port = among-none b.port None (of-client (ClientGone client link at) g
+        (record { lines = no-port-lines (v.port_link 0); fault = refl }));
   }
   targets-kept (ClientTick client at) g turns = record {
     client = among-due (is_for_client b) client b.client g.client;
-    port = among-none b.port None (of-client (ClientTick client at) g (record { lines = no-port-lines (v.port_link 0); fault = refl }));
+    port = among-none b.port None (of-client (ClientTick client at) g
+        (record { lines = no-port-lines (v.port_link 0); fault = refl }));
   }
   targets-kept (PortUp p link at) g turns = record {
     client = among-none b.client None (of-port (PortUp p link at) g refl (port-up-alone p link at (v.port_link p)));
@@ -190,10 +222,12 @@ module _ (s : Settings) (b : Batch) (v : Lists) where
     port = among-due (is_for_port b) p b.port g.port;
   }
   targets-kept (PortGone p link at) g turns = record {
-    client = among-none b.client None (of-port (PortGone p link at) g refl (record { reports = refl; lines = no-client-lines s 0 (v.client_link 0) }));
+    client = among-none b.client None (of-port (PortGone p link at) g refl
+        (record { reports = refl; lines = no-client-lines s 0 (v.client_link 0) }));
     port = among-due (is_for_port b) p b.port g.port;
   }
   targets-kept (PortTick p at) g turns = record {
-    client = among-none b.client None (of-port (PortTick p at) g refl (record { reports = refl; lines = no-client-lines s 0 (v.client_link 0) }));
+    client = among-none b.client None (of-port (PortTick p at) g refl
+        (record { reports = refl; lines = no-client-lines s 0 (v.client_link 0) }));
     port = among-due (is_for_port b) p b.port g.port;
   }

@@ -8,7 +8,8 @@ use Rattle.script_steps.specs.Standing.{IsTextStep, IsWarm, RunSoFar, Runner}
 use Rattle.gate_lines.specs.Scripts.{ComesTo}
 
 -- all lines of a script were given
-pub all-stepped : (known : Option (List ℕ)) (start end : RunSoFar) (given : List (List ℕ)) (left last : Option (List (List ℕ)))
+pub all-stepped : (known : Option (List ℕ)) (start end : RunSoFar) (given : List (List ℕ))
+    (left last : Option (List (List ℕ)))
     → FoldsTo IsTextStep start given end → Leaves known given left → GivesLine left last None
     → IfSome known (λ text. FoldsTo IsTextStep start (lines_of text) end)
 all-stepped None start end given left last steps leaves gives = tt
@@ -17,7 +18,8 @@ all-stepped (Some text) start end given left last steps leaves gives =
 
 -- they stepped a runner with its sessions up
 pub comes-to : (known : Option (List ℕ)) (start : RunSoFar) (later : Runner) (kept : Kept)
-    → IsWarm start → IfSome known (λ text. FoldsTo IsTextStep start (lines_of text) (record { runner = later; kept = kept }))
+    → IsWarm start → IfSome known (λ text. FoldsTo IsTextStep start (lines_of text)
+    (record { runner = later; kept = kept }))
     → IfSome known (λ text. ComesTo text kept)
 comes-to None start later kept warm steps = tt
 comes-to (Some text) start later kept warm steps = (start, warm, later, steps)

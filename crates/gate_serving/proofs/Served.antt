@@ -28,7 +28,8 @@ module _ (reads : ℕ → Result Unit LinkFault → List Event → List Event �
   pub none_yet : (o : ℕ) (x : List Event) → ReadSoFar reads 0 o o x x
   none_yet o x = record { ends = []; puts = refl; opened = omega arith; numbers = refl }
 
-  pub one_more : (link o p q : ℕ) (end : Result Unit LinkFault) (x y z : List Event) → ReadSoFar reads link o p x y → q ≡ p + 1 → OfAStream (reads (link + 1) end y z) → ReadSoFar reads (link + 1) o q x z
+  pub one_more : (link o p q : ℕ) (end : Result Unit LinkFault) (x y z : List Event) → ReadSoFar reads link o p x y
+      → q ≡ p + 1 → OfAStream (reads (link + 1) end y z) → ReadSoFar reads (link + 1) o q x z
   one_more link o p q end x y z h more one = record {
     ends = end ∷ h.ends;
     puts = (y, h.puts, subst (λ (n : ℕ). OfAStream (reads (n + 1) end y z)) h.numbers one);
@@ -37,10 +38,12 @@ module _ (reads : ℕ → Result Unit LinkFault → List Event → List Event �
   }
 
   -- a try that opened nothing
-  pub as_many : (link o p q : ℕ) (x y : List Event) → ReadSoFar reads link o p x y → q ≡ p → ReadSoFar reads link o q x y
+  pub as_many : (link o p q : ℕ) (x y : List Event) → ReadSoFar reads link o p x y → q ≡ p
+      → ReadSoFar reads link o q x y
   as_many link o p q x y h same = record { ends = h.ends; puts = h.puts; opened = same ∙ h.opened; numbers = h.numbers }
 
-  pub all_read : (HasEnded : Type 0) (link o p q : ℕ) (x y : List Event) → ReadSoFar reads link o p x y → q ≡ p → HasEnded → LineRead reads true HasEnded o q x y
+  pub all_read : (HasEnded : Type 0) (link o p q : ℕ) (x y : List Event) → ReadSoFar reads link o p x y → q ≡ p
+      → HasEnded → LineRead reads true HasEnded o q x y
   all_read HasEnded link o p q x y h same ended = record {
     ends = h.ends;
     puts = h.puts;
@@ -49,7 +52,8 @@ module _ (reads : ℕ → Result Unit LinkFault → List Event → List Event �
   }
 
   -- the last link that was opened may be one that nobody read
-  pub read_in_part : (HasEnded : Type 0) (link o p q : ℕ) (x y z : List Event) → ReadSoFar reads link o p x y → p ≤ q → z ≡ y → LineRead reads false HasEnded o q x z
+  pub read_in_part : (HasEnded : Type 0) (link o p q : ℕ) (x y z : List Event) → ReadSoFar reads link o p x y → p ≤ q
+      → z ≡ y → LineRead reads false HasEnded o q x z
   read_in_part HasEnded link o p q x y z h some same = record {
     ends = h.ends;
     puts = subst (λ (v : List Event). LinksRead reads h.ends x v) (sym same) h.puts;
@@ -57,7 +61,8 @@ module _ (reads : ℕ → Result Unit LinkFault → List Event → List Event �
     whole = λ e. absurd (false≢true e);
   }
 
-  pub none_read : (all_over : Bool) (HasEnded : Type 0) (o : ℕ) (x : List Event) → all_over ≡ false → LineRead reads all_over HasEnded o o x x
+  pub none_read : (all_over : Bool) (HasEnded : Type 0) (o : ℕ) (x : List Event) → all_over ≡ false
+      → LineRead reads all_over HasEnded o o x x
   none_read all_over HasEnded o x fresh = record {
     ends = [];
     puts = refl;
@@ -71,22 +76,32 @@ module _ {B : Type 0} (has_ended : Result WriterEnd LinkFault → Type 0) where
   pub none_written : (x : B) → LineWrittenBy has_ended x x
   none_written x = ([], refl)
 
-  pub one_written : (end : Result WriterEnd LinkFault) (x y z : B) → LineWrittenBy has_ended x y → has_ended end → LineWrittenBy has_ended x z
+  pub one_written : (end : Result WriterEnd LinkFault) (x y z : B) → LineWrittenBy has_ended x y → has_ended end
+      → LineWrittenBy has_ended x z
   one_written end x y z h one = (end ∷ h.0, (y, h.1, one))
 
 -- ---- a line and its halves
 
 module _ {O G C W K : Type 0} (has_ended : O → Type 0) (opened : O → ℕ) (was_put : G → List Event) (was_taken : G → List (List LinkOut)) where
   -- a half that is as it was has read no link
-  pub reads_did : (old new : Reads O (Worker G C) W K) → old.all_over ≡ false → MayBeDone (ReadsDid has_ended opened was_put was_taken) old new → ReadsDid has_ended opened was_put was_taken old new
+  pub reads_did : (old new : Reads O (Worker G C) W K) → old.all_over ≡ false
+      → MayBeDone (ReadsDid has_ended opened was_put was_taken) old new
+      → ReadsDid has_ended opened was_put was_taken old new
   reads_did old new fresh may = ⊎_elim
-      (λ (same : new ≡ old). subst (λ (n : Reads O (Worker G C) W K). ReadsDid has_ended opened was_put was_taken old n) (sym same)
-      (refl, refl, none_read (reads_of old.peer) old.all_over (has_ended old.opener) (opened old.opener) (was_put old.worker.gate) fresh, refl))
+      (λ (same : new ≡ old). subst (λ (n : Reads O (Worker G C) W K). ReadsDid has_ended opened was_put was_taken old n)
+      (sym same) (
+        refl,
+        refl,
+        none_read (reads_of old.peer) old.all_over (has_ended old.opener) (opened old.opener)
+            (was_put old.worker.gate) fresh,
+        refl,
+      ))
       (λ (did : ReadsDid has_ended opened was_put was_taken old new). did)
       may
 
 module _ {B W K : Type 0} (writer_ended : Result WriterEnd LinkFault → Type 0) where
-  pub writes_did : (old new : Writes B W K) → MayBeDone (WritesDid writer_ended) old new → WritesDid writer_ended old new
+  pub writes_did : (old new : Writes B W K) → MayBeDone (WritesDid writer_ended) old new
+      → WritesDid writer_ended old new
   writes_did old new may = ⊎_elim
       (λ (same : new ≡ old). subst (λ (n : Writes B W K). WritesDid writer_ended old n) (sym same) ([], refl))
       (λ (did : WritesDid writer_ended old new). did)
@@ -95,31 +110,47 @@ module _ {B W K : Type 0} (writer_ended : Result WriterEnd LinkFault → Type 0)
 -- ---- the same of what is equal
 
 module _ {O G C : Type 0} (has_ended : O → Type 0) (opened : O → ℕ) (was_put : G → List Event) where
-  pub read_as : (over : Bool) (p q : Recipient) (o a e b : O) (w x v y : Worker G C) → p ≡ q → o ≡ a → b ≡ e → w ≡ x → y ≡ v
-      → LineRead (reads_of p) over (has_ended e) (opened o) (opened e) (was_put w.gate) (was_put v.gate) → LineRead (reads_of q) over (has_ended b) (opened a) (opened b) (was_put x.gate) (was_put y.gate)
+  pub read_as : (over : Bool) (p q : Recipient) (o a e b : O) (w x v y : Worker G C) → p ≡ q → o ≡ a → b ≡ e → w ≡ x
+      → y ≡ v
+      → LineRead (reads_of p) over (has_ended e) (opened o) (opened e) (was_put w.gate) (was_put v.gate)
+      → LineRead (reads_of q) over (has_ended b) (opened a) (opened b) (was_put x.gate) (was_put y.gate)
   read_as over p q o a e b w x v y pq oa be wx yv h =
-      subst (λ (z : Worker G C). LineRead (reads_of q) over (has_ended b) (opened a) (opened b) (was_put x.gate) (was_put z.gate)) (sym yv)
-      (subst (λ (z : Worker G C). LineRead (reads_of q) over (has_ended b) (opened a) (opened b) (was_put z.gate) (was_put v.gate)) wx
-      (subst (λ (z : O). LineRead (reads_of q) over (has_ended z) (opened a) (opened z) (was_put w.gate) (was_put v.gate)) (sym be)
-      (subst (λ (z : O). LineRead (reads_of q) over (has_ended e) (opened z) (opened e) (was_put w.gate) (was_put v.gate)) oa
-      (subst (λ (z : Recipient). LineRead (reads_of z) over (has_ended e) (opened o) (opened e) (was_put w.gate) (was_put v.gate)) pq h))))
+      subst (λ (z : Worker G C). LineRead (reads_of q) over (has_ended b) (opened a) (opened b) (was_put x.gate)
+      (was_put z.gate)) (sym yv)
+      (subst (λ (z : Worker G C). LineRead (reads_of q) over (has_ended b) (opened a) (opened b) (was_put z.gate)
+      (was_put v.gate)) wx
+      (subst (λ (z : O). LineRead (reads_of q) over (has_ended z) (opened a) (opened z) (was_put w.gate)
+      (was_put v.gate)) (sym be)
+      (subst (λ (z : O). LineRead (reads_of q) over (has_ended e) (opened z) (opened e) (was_put w.gate)
+      (was_put v.gate)) oa
+      (subst (λ (z : Recipient). LineRead (reads_of z) over (has_ended e) (opened o) (opened e) (was_put w.gate)
+      (was_put v.gate)) pq h))))
 
 module _ {B : Type 0} (writer_ended : Result WriterEnd LinkFault → Type 0) where
   pub written_as : (w x v y : B) → w ≡ x → y ≡ v → LineWrittenBy writer_ended w v → LineWrittenBy writer_ended x y
   written_as w x v y wx yv h =
-      subst (λ (z : B). LineWrittenBy writer_ended x z) (sym yv) (subst (λ (z : B). LineWrittenBy writer_ended z v) wx h)
+      subst (λ (z : B). LineWrittenBy writer_ended x z) (sym yv)
+      (subst (λ (z : B). LineWrittenBy writer_ended z v) wx h)
 
 -- not all links may be over
-pub in_part : (reads : ℕ → Result Unit LinkFault → List Event → List Event → Option (List ℕ) → Option (List ℕ) → Type 0) (over : Bool) (HasEnded : Type 0) (o p : ℕ) (x y : List Event) → LineRead reads over HasEnded o p x y → LineRead reads false HasEnded o p x y
-in_part reads over HasEnded o p x y h = record { ends = h.ends; puts = h.puts; opened = h.opened; whole = λ e. absurd (false≢true e) }
+pub in_part : (reads : ℕ → Result Unit LinkFault → List Event → List Event → Option (List ℕ) → Option (List ℕ) → Type 0)
+    (over : Bool) (HasEnded : Type 0) (o p : ℕ) (x y : List Event) → LineRead reads over HasEnded o p x y
+    → LineRead reads false HasEnded o p x y
+in_part reads over HasEnded o p x y h = record
+    { ends = h.ends; puts = h.puts; opened = h.opened; whole = λ e. absurd (false≢true e) }
 
 module _ {O G C B W K : Type 0} (has_ended : O → Type 0) (opened : O → ℕ) (g_put : G → List Event) (g_taken : G → List (List LinkOut)) (writer_ended : Result WriterEnd LinkFault → Type 0) where
   -- what both halves of a line may have done
   abbrev pub HalvesDid : (b c : Reads O (Worker G C) W K × Writes B W K) → Type 0
-  HalvesDid b c = MayBeDone (ReadsDid has_ended opened g_put g_taken) b.0 c.0 × MayBeDone (WritesDid writer_ended) b.1 c.1
+  HalvesDid b c = MayBeDone (ReadsDid has_ended opened g_put g_taken) b.0 c.0
+      × MayBeDone (WritesDid writer_ended) b.1 c.1
 
-  served_as : (over : Bool) (a : Line O (Worker G C) B) (b c : Reads O (Worker G C) W K × Writes B W K) (d : Line O (Worker G C) B) → IsSplit a b → HalvesDid b c → IsJoined c d
-      → (LineRead (reads_of a.peer) c.0.all_over (has_ended d.opener) (opened a.opener) (opened d.opener) (g_put a.reader.gate) (g_put d.reader.gate) → LineRead (reads_of a.peer) over (has_ended d.opener) (opened a.opener) (opened d.opener) (g_put a.reader.gate) (g_put d.reader.gate))
+  served_as : (over : Bool) (a : Line O (Worker G C) B) (b c : Reads O (Worker G C) W K × Writes B W K)
+      (d : Line O (Worker G C) B) → IsSplit a b → HalvesDid b c → IsJoined c d
+      → (LineRead (reads_of a.peer) c.0.all_over (has_ended d.opener) (opened a.opener) (opened d.opener)
+      (g_put a.reader.gate) (g_put d.reader.gate)
+      → LineRead (reads_of a.peer) over (has_ended d.opener) (opened a.opener) (opened d.opener) (g_put a.reader.gate)
+      (g_put d.reader.gate))
       → LineServed has_ended opened g_put g_taken writer_ended over a d
   served_as over a b c d split did joined so =
       let read = reads_did has_ended opened g_put g_taken b.0 c.0 split.4 did.0 in
@@ -127,23 +158,32 @@ module _ {O G C B W K : Type 0} (has_ended : O → Type 0) (opened : O → ℕ) 
       record {
         peer = joined.0 ∙ (read.0 ∙ split.0);
         steps = joined.1 ∙ (read.1 ∙ split.1);
-        read = so (read_as has_ended opened g_put c.0.all_over b.0.peer a.peer b.0.opener a.opener c.0.opener d.opener b.0.worker a.reader c.0.worker d.reader split.0 split.2 joined.2 split.3 joined.3 read.2);
+        read = so (read_as has_ended opened g_put c.0.all_over b.0.peer a.peer b.0.opener a.opener c.0.opener d.opener
+            b.0.worker a.reader c.0.worker d.reader split.0 split.2 joined.2 split.3 joined.3 read.2);
         written = written_as writer_ended b.1.worker a.writer c.1.worker d.writer split.5 joined.4 did_write;
-        none_taken = ap (λ (z : Worker G C). g_taken z.gate) joined.3 ∙ (read.3 ∙ ap (λ (z : Worker G C). g_taken z.gate) split.3);
+        none_taken = ap (λ (z : Worker G C). g_taken z.gate) joined.3
+            ∙ (read.3 ∙ ap (λ (z : Worker G C). g_taken z.gate) split.3);
       }
 
-  pub served_whole : (a : Line O (Worker G C) B) (b c : Reads O (Worker G C) W K × Writes B W K) (d : Line O (Worker G C) B) → IsSplit a b → HalvesDid b c → c.0.all_over ≡ true → IsJoined c d → LineServed has_ended opened g_put g_taken writer_ended true a d
+  pub served_whole : (a : Line O (Worker G C) B) (b c : Reads O (Worker G C) W K × Writes B W K)
+      (d : Line O (Worker G C) B) → IsSplit a b → HalvesDid b c → c.0.all_over ≡ true → IsJoined c d
+      → LineServed has_ended opened g_put g_taken writer_ended true a d
   served_whole a b c d split did over joined = served_as true a b c d split did joined
-      (λ h. subst (λ (z : Bool). LineRead (reads_of a.peer) z (has_ended d.opener) (opened a.opener) (opened d.opener) (g_put a.reader.gate) (g_put d.reader.gate)) over h)
+      (λ h. subst (λ (z : Bool). LineRead (reads_of a.peer) z (has_ended d.opener) (opened a.opener) (opened d.opener)
+      (g_put a.reader.gate) (g_put d.reader.gate)) over h)
 
-  pub served_in_part : (a : Line O (Worker G C) B) (b c : Reads O (Worker G C) W K × Writes B W K) (d : Line O (Worker G C) B) → IsSplit a b → HalvesDid b c → Unit {0} → IsJoined c d → LineServed has_ended opened g_put g_taken writer_ended false a d
+  pub served_in_part : (a : Line O (Worker G C) B) (b c : Reads O (Worker G C) W K × Writes B W K)
+      (d : Line O (Worker G C) B) → IsSplit a b → HalvesDid b c → Unit {0} → IsJoined c d
+      → LineServed has_ended opened g_put g_taken writer_ended false a d
   served_in_part a b c d split did none joined = served_as false a b c d split did joined
-      (λ h. in_part (reads_of a.peer) c.0.all_over (has_ended d.opener) (opened a.opener) (opened d.opener) (g_put a.reader.gate) (g_put d.reader.gate) h)
+      (λ h. in_part (reads_of a.peer) c.0.all_over (has_ended d.opener) (opened a.opener) (opened d.opener)
+      (g_put a.reader.gate) (g_put d.reader.gate) h)
 
 -- ---- lists, place by place
 
 module _ {A B C D : Type 0} (R : A → B → Type 0) (S : B → C → Type 0) (Q : C → D → Type 0) (P : C → Type 0) (T : A → D → Type 0) (step : (a : A) (b : B) (c : C) (d : D) → R a b → S b c → P c → Q c d → T a d) where
-  pub all_through : (ws : List A) (xs : List B) (ys : List C) (zs : List D) → AllZip R ws xs → AllZip S xs ys → All P ys → AllZip Q ys zs → AllZip T ws zs
+  pub all_through : (ws : List A) (xs : List B) (ys : List C) (zs : List D) → AllZip R ws xs → AllZip S xs ys → All P ys
+      → AllZip Q ys zs → AllZip T ws zs
   all_through [] [] [] [] r s p q = tt
   all_through [] [] [] (d ∷ zs) r s p q = absurd q
   all_through [] [] (c ∷ ys) zs r s p q = absurd s
@@ -151,7 +191,8 @@ module _ {A B C D : Type 0} (R : A → B → Type 0) (S : B → C → Type 0) (Q
   all_through (a ∷ ws) [] ys zs r s p q = absurd r
   all_through (a ∷ ws) (b ∷ xs) [] zs r s p q = absurd s
   all_through (a ∷ ws) (b ∷ xs) (c ∷ ys) [] r s p q = absurd q
-  all_through (a ∷ ws) (b ∷ xs) (c ∷ ys) (d ∷ zs) (r, rs) (s, ss) p (q, qs) = (step a b c d r s (All-head P c ys p) q, all_through ws xs ys zs rs ss (All-tail P c ys p) qs)
+  all_through (a ∷ ws) (b ∷ xs) (c ∷ ys) (d ∷ zs) (r, rs) (s, ss) p (q, qs) =
+      (step a b c d r s (All-head P c ys p) q, all_through ws xs ys zs rs ss (All-tail P c ys p) qs)
 
 pub all_of_any : {A : Type 0} (ws : List A) → All (λ (a : A). Unit {0}) ws
 all_of_any ws k d few = tt

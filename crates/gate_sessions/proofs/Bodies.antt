@@ -30,11 +30,14 @@ abbrev are_said : List FieldSlot → Bool
 are_said [] = true
 are_said (s ∷ slots) = not (is_header s.tag) && are_said slots
 
-value-said : (tag : ℕ) (value : Option (List ℕ)) → not (is_header tag) ≡ true → body_of (value_fields tag value) ≡ value_fields tag value
+value-said : (tag : ℕ) (value : Option (List ℕ)) → not (is_header tag) ≡ true
+    → body_of (value_fields tag value) ≡ value_fields tag value
 value-said tag None said = refl
-value-said tag (Some value) said = ap (λ (is_kept : Bool). cond is_kept (record { tag = tag; value = value } ∷ []) []) said
+value-said tag (Some value) said = ap (λ (is_kept : Bool). cond is_kept (record { tag = tag; value = value } ∷ []) [])
+    said
 
-slots-said : (fs : List Field) (slots : List FieldSlot) → body_of fs ≡ fs → are_said slots ≡ true → body_of (appended fs slots) ≡ appended fs slots
+slots-said : (fs : List Field) (slots : List FieldSlot) → body_of fs ≡ fs → are_said slots ≡ true
+    → body_of (appended fs slots) ≡ appended fs slots
 slots-said fs [] before said = before
 slots-said fs (s ∷ slots) before said =
     let both = and_parts (not (is_header s.tag)) (are_said slots) said in
@@ -45,20 +48,25 @@ slots-said fs (s ∷ slots) before said =
     both.1
 
 -- a body with the moment of its issue behind it
-body-said : (slots : List FieldSlot) (moment : List ℕ) → are_said slots ≡ true → body_of (fields_of_slots slots ++ record { tag = 60; value = moment } ∷ []) ≡ fields_of_slots slots
+body-said : (slots : List FieldSlot) (moment : List ℕ) → are_said slots ≡ true
+    → body_of (fields_of_slots slots ++ record { tag = 60; value = moment } ∷ []) ≡ fields_of_slots slots
 body-said slots moment said =
-    filter-append (λ (f : Field). not (is_header f.tag)) (fields_of_slots slots) (record { tag = 60; value = moment } ∷ [])
+    filter-append (λ (f : Field). not (is_header f.tag)) (fields_of_slots slots)
+    (record { tag = 60; value = moment } ∷ [])
     ∙ append-nil (body_of (fields_of_slots slots))
     ∙ slots-said [] slots refl said
 
 pub issue-is : (at : ℕ) (body : AppBody) → issue at (body_fields body) ≡ issue_call at body
 unfolding issue_call
-issue-is at (bodies.Report r) = ap (issue at) (appended-from (record { tag = 35; value = 56 ∷ [] } ∷ []) (report.report_body_slots r))
-issue-is at (bodies.CancelReject r) = ap (issue at) (appended-from (record { tag = 35; value = 57 ∷ [] } ∷ []) (reject.cancel_reject_body_slots r))
+issue-is at (bodies.Report r) = ap (issue at)
+    (appended-from (record { tag = 35; value = 56 ∷ [] } ∷ []) (report.report_body_slots r))
+issue-is at (bodies.CancelReject r) = ap (issue at)
+    (appended-from (record { tag = 35; value = 57 ∷ [] } ∷ []) (reject.cancel_reject_body_slots r))
 
 -- the report of a body of this type
 reported : (kind : List ℕ) (slots : List FieldSlot) (moment : List ℕ) → are_said slots ≡ true
-    → record { tag = 35; value = kind } ∷ body_of (fields_of_slots slots ++ record { tag = 60; value = moment } ∷ []) ≡ appended (record { tag = 35; value = kind } ∷ []) slots
+    → record { tag = 35; value = kind } ∷ body_of (fields_of_slots slots ++ record { tag = 60; value = moment } ∷ [])
+    ≡ appended (record { tag = 35; value = kind } ∷ []) slots
 reported kind slots moment said =
     ap (λ (said_here : List Field). record { tag = 35; value = kind } ∷ said_here) (body-said slots moment said)
     ∙ sym (appended-from (record { tag = 35; value = kind } ∷ []) slots)
@@ -67,7 +75,8 @@ reported kind slots moment said =
 abbrev time_then : Settings → ℕ → List Timed → ℕ → ℕ
 time_then s c calls at = max (state_after s.comp (client_name s c) calls).latest at
 
-pub report-is : (s : Settings) (c : ℕ) (calls : List Timed) (at : ℕ) (body : AppBody) → map body_of (report_issued s c calls (issue_call at body)) ≡ body_fields body ∷ []
+pub report-is : (s : Settings) (c : ℕ) (calls : List Timed) (at : ℕ) (body : AppBody)
+    → map body_of (report_issued s c calls (issue_call at body)) ≡ body_fields body ∷ []
 unfolding issue_call report_issued
 report-is s c calls at (bodies.Report r) = ap (λ (m : Message). m ∷ []) (reported (codes "8") (report.report_body_slots r) (stamp_text (time_then s c calls at)) refl)
 report-is s c calls at (bodies.CancelReject r) = ap (λ (m : Message). m ∷ []) (reported (codes "9") (reject.cancel_reject_body_slots r) (stamp_text (time_then s c calls at)) refl)

@@ -10,7 +10,8 @@ use Rattle.gate_sessions.specs.Lines.{called_all}
 use Rattle.gate_sessions.proofs.Several.{told-more}
 use Rattle.gate_sessions.specs.Links.{outs_told_on}
 
-pub on-append : (link : Option ℕ) (xs ys : List ToldLink) → outs_told_on link (xs ++ ys) ≡ outs_told_on link xs ++ outs_told_on link ys
+pub on-append : (link : Option ℕ) (xs ys : List ToldLink)
+    → outs_told_on link (xs ++ ys) ≡ outs_told_on link xs ++ outs_told_on link ys
 on-append None xs ys = refl
 on-append (Some link) xs ys = map-append (to_link link) xs ys
 
@@ -18,10 +19,13 @@ pub on-nothing : (link : Option ℕ) → outs_told_on link [] ≡ []
 on-nothing None = refl
 on-nothing (Some link) = refl
 
-pub told-more-on : (s : Settings) (n : ℕ) (link : Option ℕ) (before : ℕ → List Timed) (calls : List Timed) (call : Timed) (old new : List LinkOut)
+pub told-more-on : (s : Settings) (n : ℕ) (link : Option ℕ) (before : ℕ → List Timed) (calls : List Timed)
+    (call : Timed) (old new : List LinkOut)
     → old ≡ outs_told_on link (map (told_of_out s.comp (client_name s n)) (client_outs s n (before n) calls))
-    → new ≡ old ++ outs_told_on link (map (told_of_out s.comp (client_name s n)) (client_answer s n (called_all n calls before n) call).outs)
-    → new ≡ outs_told_on link (map (told_of_out s.comp (client_name s n)) (client_outs s n (before n) (calls ++ call ∷ [])))
+    → new ≡ old ++ outs_told_on link (map (told_of_out s.comp (client_name s n))
+    (client_answer s n (called_all n calls before n) call).outs)
+    → new ≡ outs_told_on link (map (told_of_out s.comp (client_name s n))
+    (client_outs s n (before n) (calls ++ call ∷ [])))
 told-more-on s n link before calls call old new old_is new_is =
     let told = told_of_out s.comp (client_name s n) in
     let first = map told (client_outs s n (before n) calls) in

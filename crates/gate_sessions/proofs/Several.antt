@@ -29,51 +29,65 @@ called-here : {X : Type 0} (n : ℕ) (call : X) (before : ℕ → List X) → ca
 called-here n call before = ap (λ (is_here : Bool). cond is_here (call ∷ before n) (before n)) (eq-eqb n n refl)
 
 -- of that number itself
-pub called-all-here : {X : Type 0} (n : ℕ) (calls : List X) (before : ℕ → List X) → called_all n calls before n ≡ onto calls (before n)
+pub called-all-here : {X : Type 0} (n : ℕ) (calls : List X) (before : ℕ → List X)
+    → called_all n calls before n ≡ onto calls (before n)
 called-all-here n [] before = refl
-called-all-here n (call ∷ calls) before = called-all-here n calls (called n call before) ∙ ap (onto calls) (called-here n call before)
+called-all-here n (call ∷ calls) before = called-all-here n calls (called n call before)
+    ∙ ap (onto calls) (called-here n call before)
 
 client-outs-more : (s : Settings) (n : ℕ) (before calls : List Timed) (call : Timed)
-    → client_outs s n before (calls ++ call ∷ []) ≡ client_outs s n before calls ++ (client_answer s n (onto calls before) call).outs
+    → client_outs s n before (calls ++ call ∷ [])
+    ≡ client_outs s n before calls ++ (client_answer s n (onto calls before) call).outs
 client-outs-more s n before [] call = append-nil (client_answer s n before call).outs
 client-outs-more s n before (c ∷ calls) call =
     ap (λ (outs : List Out). (client_answer s n before c).outs ++ outs) (client-outs-more s n (c ∷ before) calls call)
-    ∙ sym (append_assoc (client_answer s n before c).outs (client_outs s n (c ∷ before) calls) (client_answer s n (onto calls (c ∷ before)) call).outs)
+    ∙ sym (append_assoc (client_answer s n before c).outs (client_outs s n (c ∷ before) calls)
+    (client_answer s n (onto calls (c ∷ before)) call).outs)
 
 client-reports-more : (s : Settings) (n : ℕ) (before calls : List Timed) (call : Timed)
-    → client_reports s n before (calls ++ call ∷ []) ≡ client_reports s n before calls ++ report_issued s n (onto calls before) call
+    → client_reports s n before (calls ++ call ∷ [])
+    ≡ client_reports s n before calls ++ report_issued s n (onto calls before) call
 client-reports-more s n before [] call = append-nil (report_issued s n before call)
 client-reports-more s n before (c ∷ calls) call =
-    ap (λ (reports : List Message). report_issued s n before c ++ reports) (client-reports-more s n (c ∷ before) calls call)
-    ∙ sym (append_assoc (report_issued s n before c) (client_reports s n (c ∷ before) calls) (report_issued s n (onto calls (c ∷ before)) call))
+    ap (λ (reports : List Message). report_issued s n before c ++ reports)
+    (client-reports-more s n (c ∷ before) calls call)
+    ∙ sym (append_assoc (report_issued s n before c) (client_reports s n (c ∷ before) calls)
+    (report_issued s n (onto calls (c ∷ before)) call))
 
 -- what the link is told, with one call more
-pub told-more : (s : Settings) (n : ℕ) (before : ℕ → List Timed) (calls : List Timed) (call : Timed) (old new : List ToldLink)
+pub told-more : (s : Settings) (n : ℕ) (before : ℕ → List Timed) (calls : List Timed) (call : Timed)
+    (old new : List ToldLink)
     → old ≡ map (told_of_out s.comp (client_name s n)) (client_outs s n (before n) calls)
-    → new ≡ old ++ map (told_of_out s.comp (client_name s n)) (client_answer s n (called_all n calls before n) call).outs
+    → new ≡ old ++ map (told_of_out s.comp (client_name s n))
+    (client_answer s n (called_all n calls before n) call).outs
     → new ≡ map (told_of_out s.comp (client_name s n)) (client_outs s n (before n) (calls ++ call ∷ []))
 told-more s n before calls call old new old_is new_is =
     let told = told_of_out s.comp (client_name s n) in
     new_is
     ∙ ap (λ (is : List ToldLink). is ++ map told (client_answer s n (called_all n calls before n) call).outs) old_is
-    ∙ ap (λ (so_far : List Timed). map told (client_outs s n (before n) calls) ++ map told (client_answer s n so_far call).outs) (called-all-here n calls before)
+    ∙ ap (λ (so_far : List Timed). map told (client_outs s n (before n) calls)
+    ++ map told (client_answer s n so_far call).outs) (called-all-here n calls before)
     ∙ sym (map-append told (client_outs s n (before n) calls) (client_answer s n (onto calls (before n)) call).outs)
     ∙ ap (map told) (sym (client-outs-more s n (before n) calls call))
 
 -- and what is reported
-pub reported-more : (s : Settings) (n : ℕ) (before : ℕ → List Timed) (calls : List Timed) (call : Timed) (old new : List Message)
+pub reported-more : (s : Settings) (n : ℕ) (before : ℕ → List Timed) (calls : List Timed) (call : Timed)
+    (old new : List Message)
     → old ≡ client_reports s n (before n) calls
     → new ≡ old ++ report_issued s n (called_all n calls before n) call
     → new ≡ client_reports s n (before n) (calls ++ call ∷ [])
 reported-more s n before calls call old new old_is new_is =
     new_is
     ∙ ap (λ (is : List Message). is ++ report_issued s n (called_all n calls before n) call) old_is
-    ∙ ap (λ (so_far : List Timed). client_reports s n (before n) calls ++ report_issued s n so_far call) (called-all-here n calls before)
+    ∙ ap (λ (so_far : List Timed). client_reports s n (before n) calls ++ report_issued s n so_far call)
+    (called-all-here n calls before)
     ∙ sym (client-reports-more s n (before n) calls call)
 
 -- the calls that issue bodies, up to one more
-pub issues-more : (at : ℕ) (bodies : List AppBody) (i : ℕ) (body : AppBody) → i < length bodies → body ≡ get_or bodies i body
-    → issues at (map body_fields (take (i + 1) bodies)) ≡ issues at (map body_fields (take i bodies)) ++ issue_call at body ∷ []
+pub issues-more : (at : ℕ) (bodies : List AppBody) (i : ℕ) (body : AppBody) → i < length bodies
+    → body ≡ get_or bodies i body
+    → issues at (map body_fields (take (i + 1) bodies))
+    ≡ issues at (map body_fields (take i bodies)) ++ issue_call at body ∷ []
 issues-more at bodies i body lt is =
     let before = take i bodies in
     ap (λ (bs : List AppBody). issues at (map body_fields bs)) (take_more bodies i body lt)

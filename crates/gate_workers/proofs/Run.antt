@@ -39,7 +39,8 @@ not_over-memory Malformed e = absurd (cc)
 not_over-memory StepLimit e = absurd (cc)
 
 -- a step that answered something wasn't refused
-pub ok-goes_on : {A : Type 0} (limit : Limit) (r : Result A LinkFault) (x : A) → r ≡ Ok x → ((f : LinkFault) → refusal limit ≡ Some f → r ≡ Err f) → refusal limit ≡ None
+pub ok-goes_on : {A : Type 0} (limit : Limit) (r : Result A LinkFault) (x : A) → r ≡ Ok x
+    → ((f : LinkFault) → refusal limit ≡ Some f → r ≡ Err f) → refusal limit ≡ None
 ok-goes_on limit r x e refused = by_refusal (refusal limit) refl
   where
     by_refusal : (z : Option LinkFault) → refusal limit ≡ z → refusal limit ≡ None
@@ -47,24 +48,35 @@ ok-goes_on limit r x e refused = by_refusal (refusal limit) refl
     by_refusal (Some f) q = absurd (let w = sym e ∙ refused f q in cc)
 
 -- nor was one in which memory ran out
-pub memory-goes_on : {A : Type 0} (limit : Limit) (r : Result A LinkFault) → limit.over ≡ None → r ≡ Err NoMemory → ((f : LinkFault) → refusal limit ≡ Some f → r ≡ Err f) → refusal limit ≡ None
+pub memory-goes_on : {A : Type 0} (limit : Limit) (r : Result A LinkFault) → limit.over ≡ None → r ≡ Err NoMemory
+    → ((f : LinkFault) → refusal limit ≡ Some f → r ≡ Err f) → refusal limit ≡ None
 memory-goes_on limit r none e refused = by_refusal (refusal limit) refl
   where
     by_refusal : (z : Option LinkFault) → refusal limit ≡ z → refusal limit ≡ None
     by_refusal None q = q
-    by_refusal (Some f) q = absurd (let w = sym e ∙ (refused f q ∙ ap (λ (f : LinkFault). Err f) (used_up limit f none q)) in cc)
+    by_refusal (Some f) q = absurd (let w = sym e
+        ∙ (refused f q ∙ ap (λ (f : LinkFault). Err f) (used_up limit f none q)) in cc)
 
 -- the link goes on
-pub limit-goes_on : {A : Type 0} (limit new : Limit) (r : Result A LinkFault) → end_after r ≡ None → refusal limit ≡ None → new ≡ limit_after limit r → new.over ≡ None
+pub limit-goes_on : {A : Type 0} (limit new : Limit) (r : Result A LinkFault) → end_after r ≡ None
+    → refusal limit ≡ None → new ≡ limit_after limit r → new.over ≡ None
 limit-goes_on limit new r ends goes e = ap (λ (l : Limit). l.over) e ∙ rw (goes, ends) refl
 
 -- ---- a reader
 
 module _ {D : Type 0} (made : D → List ℕ → List law.Event → Type 0) (are_all : D → Bool → List ℕ → List law.Event → Type 0) where
   pub read_none : (a : Reading D) (x : List law.Event) (l : Option (List ℕ)) → HasRead made a a x x l l
-  read_none a x l = record { read = []; put = []; consumes = Consumes-nil l; puts = sym (append-nil x); goes = goes_none made are_all 0 a }
+  read_none a x l = record {
+    read = [];
+    put = [];
+    consumes = Consumes-nil l;
+    puts = sym (append-nil x);
+    goes =
+        goes_none made are_all 0 a;
+  }
 
-  pub read_more : (at : ℕ) (answer : Result Progress LinkFault) (a b c : Reading D) (x y z : List law.Event) (l m n : Option (List ℕ))
+  pub read_more : (at : ℕ) (answer : Result Progress LinkFault) (a b c : Reading D) (x y z : List law.Event)
+      (l m n : Option (List ℕ))
       → HasRead made a b x y l m → Reads made are_all at answer b c y z m n → HasRead made a c x z l n
   read_more at answer a b c x y z l m n h s = record {
     read = h.read ++ s.read;
@@ -75,16 +87,21 @@ module _ {D : Type 0} (made : D → List ℕ → List law.Event → Type 0) (are
   }
 
   -- a step and a turn
-  pub read_step : (at : ℕ) (answer : Result Progress LinkFault) (a b c : Reading D) (x y z w : List law.Event) (l m n : Option (List ℕ))
-      → HasRead made a b x y l m → (refusal b.limit ≡ None → Reads made are_all at answer b c y z m n) → refusal b.limit ≡ None → w ≡ z → HasRead made a c x w l n
+  pub read_step : (at : ℕ) (answer : Result Progress LinkFault) (a b c : Reading D) (x y z w : List law.Event)
+      (l m n : Option (List ℕ))
+      → HasRead made a b x y l m → (refusal b.limit ≡ None → Reads made are_all at answer b c y z m n)
+      → refusal b.limit ≡ None → w ≡ z → HasRead made a c x w l n
   read_step at answer a b c x y z w l m n h reads goes same =
-      subst (λ (v : List law.Event). HasRead made a c x v l n) (sym same) (read_more at answer a b c x y z l m n h (reads goes))
+      subst (λ (v : List law.Event). HasRead made a c x v l n) (sym same)
+      (read_more at answer a b c x y z l m n h (reads goes))
 
   module _ (IsOf : D → Type 0) where
     -- with the last step, whose reader this is
-    pub read_over : (at : ℕ) (answer : Result Progress LinkFault) (end : Result Unit LinkFault) (a b c : Reading D) (x y z : List law.Event) (l m n : Option (List ℕ))
+    pub read_over : (at : ℕ) (answer : Result Progress LinkFault) (end : Result Unit LinkFault) (a b c : Reading D)
+        (x y z : List law.Event) (l m n : Option (List ℕ))
         → HasRead made a b x y l m → (s : Reads made are_all at answer b c y z m n) → IsOf c.decoder
-        → ((before : List ℕ) (events : List law.Event) → Gave made before events b → EndsWith are_all end (before ++ s.read) (events ++ s.put) c.decoder n)
+        → ((before : List ℕ) (events : List law.Event) → Gave made before events b
+        → EndsWith are_all end (before ++ s.read) (events ++ s.put) c.decoder n)
         → HasReadAll made are_all IsOf end a x z l n
     read_over at answer end a b c x y z l m n h s own ends = record {
       read = h.read ++ s.read;
@@ -95,28 +112,41 @@ module _ {D : Type 0} (made : D → List ℕ → List law.Event → Type 0) (are
       is_of = own;
       goes = goes_again made are_all at a b c h.read s.read h.put s.put h.goes s.goes;
       ends = λ before events gave.
-          subst (λ (r : List ℕ). EndsWith are_all end r (events ++ (h.put ++ s.put)) c.decoder n) (append_assoc before h.read s.read)
-          (subst (λ (p : List law.Event). EndsWith are_all end ((before ++ h.read) ++ s.read) p c.decoder n) (append_assoc events h.put s.put)
+          subst (λ (r : List ℕ). EndsWith are_all end r (events ++ (h.put ++ s.put)) c.decoder n)
+          (append_assoc before h.read s.read)
+          (subst (λ (p : List law.Event). EndsWith are_all end ((before ++ h.read) ++ s.read) p c.decoder n)
+          (append_assoc events h.put s.put)
           (ends (before ++ h.read) (events ++ h.put) (h.goes before events gave)));
     }
 
     pub read_to_end : (at : ℕ) (a b c : Reading D) (x y z : List law.Event) (l m n : Option (List ℕ))
-        → HasRead made a b x y l m → Reads made are_all at (Ok Ended) b c y z m n → IsOf c.decoder → HasReadAll made are_all IsOf (Ok tt) a x z l n
-    read_to_end at a b c x y z l m n h s own = read_over at (Ok Ended) (Ok tt) a b c x y z l m n h s own (λ before events gave.
-        (s.says.1, subst (λ (r : List ℕ). are_all c.decoder false (before ++ r) (events ++ s.put)) (sym s.says.0) (s.says.2 before events gave)))
+        → HasRead made a b x y l m → Reads made are_all at (Ok Ended) b c y z m n → IsOf c.decoder
+        → HasReadAll made are_all IsOf (Ok tt) a x z l n
+    read_to_end at a b c x y z l m n h s own =
+        read_over at (Ok Ended) (Ok tt) a b c x y z l m n h s own (λ before events gave. (
+          s.says.1,
+          subst (λ (r : List ℕ). are_all c.decoder false (before ++ r) (events ++ s.put)) (sym s.says.0)
+              (s.says.2 before events gave),
+        ))
 
     -- at a fault
-    pub read_to_fault : (at : ℕ) (fault : LinkFault) (a b c : Reading D) (x y z : List law.Event) (l m n : Option (List ℕ))
-        → fault ≢ NoMemory → HasRead made a b x y l m → Reads made are_all at (Err fault) b c y z m n → IsOf c.decoder → HasReadAll made are_all IsOf (Err fault) a x z l n
-    read_to_fault at ReadFailed a b c x y z l m n not h s own = read_over at (Err ReadFailed) (Err ReadFailed) a b c x y z l m n h s own (λ before events gave.
-        subst (λ (r : List ℕ). are_all c.decoder false (before ++ r) (events ++ s.put)) (sym s.says.0) (s.says.1 before events gave))
-    read_to_fault at Malformed a b c x y z l m n not h s own = read_over at (Err Malformed) (Err Malformed) a b c x y z l m n h s own s.says
+    pub read_to_fault : (at : ℕ) (fault : LinkFault) (a b c : Reading D) (x y z : List law.Event)
+        (l m n : Option (List ℕ))
+        → fault ≢ NoMemory → HasRead made a b x y l m → Reads made are_all at (Err fault) b c y z m n → IsOf c.decoder
+        → HasReadAll made are_all IsOf (Err fault) a x z l n
+    read_to_fault at ReadFailed a b c x y z l m n not h s own =
+        read_over at (Err ReadFailed) (Err ReadFailed) a b c x y z l m n h s own (λ before events gave.
+        subst (λ (r : List ℕ). are_all c.decoder false (before ++ r) (events ++ s.put)) (sym s.says.0)
+        (s.says.1 before events gave))
+    read_to_fault at Malformed a b c x y z l m n not h s own =
+        read_over at (Err Malformed) (Err Malformed) a b c x y z l m n h s own s.says
     read_to_fault at NoMemory a b c x y z l m n not h s own = absurd (not refl)
     read_to_fault at WriteFailed a b c x y z l m n not h s own = absurd s.says
     read_to_fault at StepLimit a b c x y z l m n not h s own = absurd s.says
 
     -- the steps are used up
-    pub read_to_limit : (a b : Reading D) (x y : List law.Event) (l m : Option (List ℕ)) → HasRead made a b x y l m → IsOf b.decoder
+    pub read_to_limit : (a b : Reading D) (x y : List law.Event) (l m : Option (List ℕ)) → HasRead made a b x y l m
+        → IsOf b.decoder
         → HasReadAll made are_all IsOf (Err StepLimit) a x y l m
     read_to_limit a b x y l m h own = record {
       read = h.read;
@@ -130,7 +160,8 @@ module _ {D : Type 0} (made : D → List ℕ → List law.Event → Type 0) (are
     }
 
     -- by whichever
-    pub read_fault : (at : ℕ) (fault : LinkFault) (a b c : Reading D) (x y z : List law.Event) (l m n : Option (List ℕ)) → fault ≢ NoMemory → b.limit.over ≡ None
+    pub read_fault : (at : ℕ) (fault : LinkFault) (a b c : Reading D) (x y z : List law.Event) (l m n : Option (List ℕ))
+        → fault ≢ NoMemory → b.limit.over ≡ None
         → HasRead made a b x y l m
         → (refusal b.limit ≡ None → Reads made are_all at (Err fault) b c y z m n)
         → ((f : LinkFault) → refusal b.limit ≡ Some f → (fault ≡ f) × (n ≡ m) × (z ≡ y))
@@ -144,10 +175,12 @@ module _ {D : Type 0} (made : D → List ℕ → List law.Event → Type 0) (are
             let is_limit : fault ≡ StepLimit = same.0 ∙ used_up b.limit f none e in
             subst (λ (f : LinkFault). HasReadAll made are_all IsOf (Err f) a x z l n) (sym is_limit)
             (subst (λ (n : Option (List ℕ)). HasReadAll made are_all IsOf (Err StepLimit) a x z l n) (sym same.1)
-            (subst (λ (z : List law.Event). HasReadAll made are_all IsOf (Err StepLimit) a x z l m) (sym same.2) (read_to_limit a b x y l m h own)))
+            (subst (λ (z : List law.Event). HasReadAll made are_all IsOf (Err StepLimit) a x z l m) (sym same.2)
+            (read_to_limit a b x y l m h own)))
 
   -- said otherwise whose reader it is
-  pub read-of : (IsOf IsOther : D → Type 0) (answer : Result Unit LinkFault) (a : Reading D) (x y : List law.Event) (l m : Option (List ℕ)) → ((d : D) → IsOf d → IsOther d)
+  pub read-of : (IsOf IsOther : D → Type 0) (answer : Result Unit LinkFault) (a : Reading D) (x y : List law.Event)
+      (l m : Option (List ℕ)) → ((d : D) → IsOf d → IsOther d)
       → HasReadAll made are_all IsOf answer a x y l m → HasReadAll made are_all IsOther answer a x y l m
   read-of IsOf IsOther answer a x y l m other h = record {
     read = h.read;
@@ -161,15 +194,18 @@ module _ {D : Type 0} (made : D → List ℕ → List law.Event → Type 0) (are
   }
 
   -- from the beginning of a link to its end
-  pub whole_link : (IsOf : D → Type 0) (up gone : ℕ → law.Event) (answer : Result Unit LinkFault) (began ended : ℕ) (a : Reading D) (x y z w : List law.Event) (l m : Option (List ℕ))
-      → Gave made [] [] a → y ≡ x ++ up began ∷ [] → HasReadAll made are_all IsOf answer a y z l m → w ≡ z ++ gone ended ∷ []
+  pub whole_link : (IsOf : D → Type 0) (up gone : ℕ → law.Event) (answer : Result Unit LinkFault) (began ended : ℕ)
+      (a : Reading D) (x y z w : List law.Event) (l m : Option (List ℕ))
+      → Gave made [] [] a → y ≡ x ++ up began ∷ [] → HasReadAll made are_all IsOf answer a y z l m
+      → w ≡ z ++ gone ended ∷ []
       → ReadsLink made are_all IsOf up gone answer x w l m
   whole_link IsOf up gone answer began ended a x y z w l m fresh first h last = record {
     read = h.read;
     events = h.put;
     began = began;
     ended = ended;
-    puts = last ∙ ap (λ (v : List law.Event). v ++ gone ended ∷ []) (h.puts ∙ (ap (λ (v : List law.Event). v ++ h.put) first ∙ append_assoc x (up began ∷ []) h.put));
+    puts = last ∙ ap (λ (v : List law.Event). v ++ gone ended ∷ [])
+        (h.puts ∙ (ap (λ (v : List law.Event). v ++ h.put) first ∙ append_assoc x (up began ∷ []) h.put));
     consumes = h.consumes;
     reading = h.reading;
     is_of = h.is_of;

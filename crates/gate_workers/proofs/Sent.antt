@@ -16,11 +16,26 @@ writer_send = search (sendable, crosses) depth 100 fits 500000
 
 module _ (W G : RattleType) (sw : IsSend W) (sg : IsSend G) where
   link_send : IsSend (Link.the_row W G)
-  link_send = declared_send (Link.the_type W G) (search (writer_send, sendable, crosses) depth 40, (search (sw, sendable) depth 40, (search (sendable, crosses) depth 40, (search (sendable, crosses) depth 40, tt))))
+  link_send = declared_send (Link.the_type W G) (
+    search (writer_send, sendable, crosses) depth 40,
+    (
+      search (sw, sendable) depth 40,
+      (
+        search (sendable, crosses) depth 40,
+        (search (sendable, crosses) depth 40, tt),
+      ),
+    ),
+  )
 
   module _ (p : Prompt.Ghosts W.Denot) (w : Write.Ghosts W.Denot) (g : Gate.Ghosts G.Denot) where
     work_send : IsSend (Work.the_row W G p w g)
-    work_send = declared_send (Work.the_type W G p w g) (search (sg, sendable) depth 40, (search sendable depth 40, (search (link_send, sendable, crosses) depth 40, tt)))
+    work_send = declared_send (Work.the_type W G p w g) (
+      search (sg, sendable) depth 40,
+      (
+        search sendable depth 40,
+        (search (link_send, sendable, crosses) depth 40, tt),
+      ),
+    )
 
     pub pen_sync : IsSync (Pen.the_row W G p w g)
     pen_sync = search (work_send, sendable, crosses) depth 100 fits 500000

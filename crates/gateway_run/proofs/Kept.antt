@@ -5,7 +5,8 @@ use Rattle.std.proofs.lemmas.List.Elements.{All-push}
 use Rattle.std.proofs.lemmas.Option.{slice_get-get_or}
 
 -- once one of which it holds may have come to them
-pub pushed : {A : Type 0} (ok : Bool) (old new : List A) (x : A) → new ≡ (if ok then old ++ x ∷ [] else old) → (P : A → Type 0) → All P old → P x → All P new
+pub pushed : {A : Type 0} (ok : Bool) (old new : List A) (x : A) → new ≡ (if ok then old ++ x ∷ [] else old)
+    → (P : A → Type 0) → All P old → P x → All P new
 pushed true old new x e P all one = subst (All P) (sym e) (All-push P old x all one)
 pushed false old new x e P all one = subst (All P) (sym e) all
 

@@ -5,7 +5,8 @@ use Rattle.hint_index.specs.declared.text_key.TextKey.{TextKey}
 use Rattle.hint_index.specs.TextKeys.{same_key, text_key}
 
 pub key-itself : (k : TextKey) → same_key k k ≡ true
-key-itself k = λ j. eq-eqb k.number k.number refl j && (eq-eqb k.len k.len refl j && (bytes_decides k.bytes k.bytes).1 refl j)
+key-itself k = λ j. eq-eqb k.number k.number refl j
+    && (eq-eqb k.len k.len refl j && (bytes_decides k.bytes k.bytes).1 refl j)
 
 pub key-of-same : (m n : ℕ) (xs ys : List ℕ) → m ≡ n → xs ≡ ys → same_key (text_key m xs) (text_key n ys) ≡ true
 key-of-same m n xs ys numbers texts =

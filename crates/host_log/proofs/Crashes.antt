@@ -1,5 +1,6 @@
 -- What calls make of what a crash may leave.
-use Rattle.std.proofs.Common.{◌≡◌, ◌<◌, ◌≤◌, inl, inr, ℕ, List, [], ◌++◌, length, take, refl, sym, ap, subst, ◌∙◌, arith}
+use Rattle.std.proofs.Common.{◌≡◌, ◌<◌, ◌≤◌, inl, inr, ℕ, List, [], ◌++◌, length, take, refl, sym, ap, subst, ◌∙◌}
+use Rattle.std.proofs.Common.{arith}
 use Rattle.std.proofs.lemmas.Bool.{cases_lt}
 use Rattle.std.proofs.lemmas.List.{append-nil, take-append-le, take_all}
 use Rattle.day_log.specs.Crash.{Follows, Only, StandsBefore}
@@ -11,7 +12,8 @@ nothing-behind c = record { torn = []; same = sym (append-nil c) }
 pub same-follows : (n : ℕ) (all : List ℕ) → Follows StandsBefore (IsLeft n all) (IsLeft n all)
 same-follows n all c left = (c, left, nothing-behind c)
 
-pub added-follows : (n : ℕ) (all more new : List ℕ) → new ≡ all ++ more → n ≤ length all → Follows StandsBefore (IsLeft n all) (IsLeft n new)
+pub added-follows : (n : ℕ) (all more new : List ℕ) → new ≡ all ++ more → n ≤ length all
+    → Follows StandsBefore (IsLeft n all) (IsLeft n new)
 added-follows n all more new is few c (inl whole) = (all, inl refl, record { torn = more; same = whole ∙ is })
 added-follows n all more new is few c (inr torn) =
     let front : take n new ≡ take n all = ap (λ (l : List ℕ). take n l) is ∙ take-append-le n all more few in

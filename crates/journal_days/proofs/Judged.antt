@@ -1,5 +1,6 @@
 -- What is wrong with pages, a page at a time.
-use Rattle.std.proofs.Common.{◌≡◌, ℕ, Bool, true, false, Option, Some, None, List, [], ◌∷◌, Vec, length, refl, sym, ap, ◌∙◌, arith}
+use Rattle.std.proofs.Common.{◌≡◌, ℕ, Bool, true, false, Option, Some, None, List, [], ◌∷◌, Vec, length, refl, sym, ap}
+use Rattle.std.proofs.Common.{◌∙◌, arith}
 use Rattle.std.proofs.lemmas.Bool.Decides.{nat_tests}
 use Rattle.std.specs.Prelude.{◌==◌}
 use Rattle.std.specs.declared.alloc.Global.{Global}
@@ -20,7 +21,8 @@ last-is (p ∷ pages) = sym (some-more p pages)
 
 module _ (version : Version) (n number : ℕ) (place : Place) (page : Vec ℕ Global) (behind : List (Vec ℕ Global)) (text : List ℕ) (same : text ≡ page.items) where
   abbrev later : Option (ℕ × PageFault)
-  later = fault_from version (page_behind n) (number_behind page.items) (place_behind place (page_records version page.items)) (texts behind)
+  later = fault_from version (page_behind n) (number_behind page.items)
+      (place_behind place (page_records version page.items)) (texts behind)
 
   first : (o : Option PageFault) → page_fault_in_day version (length behind == 0) number place text ≡ o
       → fault_from version n number place (texts (page ∷ behind)) ≡ at_page n o later
@@ -29,13 +31,18 @@ module _ (version : Version) (n number : ℕ) (place : Place) (page : Vec ℕ Gl
       ∙ ap (λ (l : List ℕ). at_page n (page_fault_in_day version (length behind == 0) number place l) later) (sym same)
       ∙ ap (λ (f : Option PageFault). at_page n f later) e
 
-  pub first-wrong : (pages : List (Vec ℕ Global)) (fault : PageFault) → pages ≡ page ∷ behind → page_fault_in_day version (length behind == 0) number place text ≡ Some fault
+  pub first-wrong : (pages : List (Vec ℕ Global)) (fault : PageFault) → pages ≡ page ∷ behind
+      → page_fault_in_day version (length behind == 0) number place text ≡ Some fault
       → fault_from version n number place (texts pages) ≡ Some (n, fault)
-  first-wrong pages fault is e = ap (λ (ps : List (Vec ℕ Global)). fault_from version n number place (texts ps)) is ∙ first (Some fault) e
+  first-wrong pages fault is e = ap (λ (ps : List (Vec ℕ Global)). fault_from version n number place (texts ps)) is
+      ∙ first (Some fault) e
 
-  pub first-right : (pages : List (Vec ℕ Global)) → pages ≡ page ∷ behind → page_fault_in_day version (length behind == 0) number place text ≡ None
+  pub first-right : (pages : List (Vec ℕ Global)) → pages ≡ page ∷ behind
+      → page_fault_in_day version (length behind == 0) number place text ≡ None
       → fault_from version n number place (texts pages)
-      ≡ fault_from version (page_behind n) (number_behind text) (place_behind place (page_records version text)) (texts behind)
+      ≡ fault_from version (page_behind n) (number_behind text) (place_behind place (page_records version text))
+      (texts behind)
   first-right pages is e =
       ap (λ (ps : List (Vec ℕ Global)). fault_from version n number place (texts ps)) is ∙ first None e
-      ∙ ap (λ (l : List ℕ). fault_from version (page_behind n) (number_behind l) (place_behind place (page_records version l)) (texts behind)) (sym same)
+      ∙ ap (λ (l : List ℕ). fault_from version (page_behind n) (number_behind l)
+      (place_behind place (page_records version l)) (texts behind)) (sym same)

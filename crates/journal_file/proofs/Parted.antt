@@ -1,5 +1,6 @@
 -- Bytes are parted in one way into whole pages and what stands behind them.
-use Rattle.std.proofs.Common.{◌≡◌, ◌≤◌, ◌<◌, ◌^◌, ℕ, ◌+◌, Bool, true, false, Some, None, List, [], ◌∷◌, ◌++◌, length, refl, sym, ap, subst, ◌∙◌, arith, append_assoc, append-nil, length-append}
+use Rattle.std.proofs.Common.{◌≡◌, ◌≤◌, ◌<◌, ◌^◌, ℕ, ◌+◌, Bool, true, false, Some, None, List, [], ◌∷◌, ◌++◌, length}
+use Rattle.std.proofs.Common.{refl, sym, ap, subst, ◌∙◌, arith, append_assoc, append-nil, length-append}
 use Rattle.std.specs.Prelude.{◌&&◌, ◌||◌, not, is_none}
 use Rattle.std.proofs.lemmas.Bool.{true≢false}
 use mathlib.Core.List.{IsPrefix}
@@ -11,7 +12,8 @@ use Rattle.journal_file.specs.declared.fault.FileFault.{FileFault}
 use Rattle.journal_file.specs.Endings.{EndsBy, is_unfinished, stands_in_front, stands_somewhere}
 use Rattle.journal_file.specs.File.{AreNotEmpty, before_size, front_fault, sized_page, sized_pages}
 use Rattle.journal_file.specs.Said.{IsParted}
-use Rattle.journal_file.proofs.One.{behind-size, few-behind, few-front, long, no-end, same-behind, same-front, same-size, some-before, whole-front}
+use Rattle.journal_file.proofs.One.{behind-size, few-behind, few-front, long, no-end, same-behind, same-front}
+use Rattle.journal_file.proofs.One.{same-size, some-before, whole-front}
 
 -- ---- tests
 
@@ -39,7 +41,8 @@ no-page-over form x page behind e one few = no-end form page x behind one few e
 pub no-fault : (fault : FileFault) → Some fault ≡ None → ⊥
 no-fault fault e = cc
 
-pub no-page-broken : (form : Version) (rest : List ℕ) (fault : FileFault) → front_fault form rest ≡ Some fault → NoPage form rest
+pub no-page-broken : (form : Version) (rest : List ℕ) (fault : FileFault) → front_fault form rest ≡ Some fault
+    → NoPage form rest
 no-page-broken form rest fault why page behind e one few =
     no-fault fault (sym why ∙ ap (front_fault form) e ∙ whole-front form page behind few)
 
@@ -55,8 +58,10 @@ no-page-unfinished One rest un page behind e one few = true≢false (sym un)
 no-page-unfinished Two [] un page behind e one few = no-page-none Two page behind e one few
 no-page-unfinished Two (b ∷ rest) un page behind e one few =
     let none : stands_somewhere (b ∷ rest) ≡ false = not-so (stands_somewhere (b ∷ rest)) (right-of _ _ un) in
-    let here : stands_in_front (b ∷ rest) ≡ false = left-none (stands_in_front (b ∷ rest)) (stands_somewhere rest) none in
-    let there : stands_in_front (b ∷ rest) ≡ true = ap is_none (ap (front_fault Two) e ∙ whole-front Two page behind few) in
+    let here : stands_in_front (b ∷ rest) ≡ false = left-none (stands_in_front (b ∷ rest)) (stands_somewhere rest) none
+    in
+    let there : stands_in_front (b ∷ rest) ≡ true =
+    ap is_none (ap (front_fault Two) e ∙ whole-front Two page behind few) in
     true≢false (sym there ∙ here)
 
 pub no-page-by : (form : Version) (rest : List ℕ) (ending : Ending) → EndsBy form rest ending → NoPage form rest
@@ -67,13 +72,15 @@ no-page-by form rest (Torn n) end page behind e one few = no-page-unfinished for
 
 -- ---- pages in front of both
 
-ahead-of : (form : Version) (a : List ℕ) (p : List (List ℕ)) (x : List ℕ) → sized_pages form (a ∷ p) ++ x ≡ sized_page form a ++ (sized_pages form p ++ x)
+ahead-of : (form : Version) (a : List ℕ) (p : List (List ℕ)) (x : List ℕ)
+    → sized_pages form (a ∷ p) ++ x ≡ sized_page form a ++ (sized_pages form p ++ x)
 ahead-of form a p x = append_assoc (sized_page form a) (sized_pages form p) x
 
 pub along : (s t : List ℕ) → s ≡ t → length s < 2 ^ 64 → length t < 2 ^ 64
 along s t e few = subst (λ (l : List ℕ). length l < 2 ^ 64) e few
 
-pub pages-once : (form : Version) (p q : List (List ℕ)) (x y : List ℕ) → AreNotEmpty p → AreNotEmpty q → length (sized_pages form p ++ x) < 2 ^ 64
+pub pages-once : (form : Version) (p q : List (List ℕ)) (x y : List ℕ) → AreNotEmpty p → AreNotEmpty q
+    → length (sized_pages form p ++ x) < 2 ^ 64
     → NoPage form x → NoPage form y → sized_pages form p ++ x ≡ sized_pages form q ++ y → (p ≡ q) × (x ≡ y)
 pages-once form [] [] x y pf qf few nx ny e = (refl, e)
 pages-once form [] (b ∷ q) x y pf qf few nx ny e =
@@ -81,37 +88,55 @@ pages-once form [] (b ∷ q) x y pf qf few nx ny e =
     absurd (nx b (sized_pages form q ++ y) ahead qf.0 (few-front form b (sized_pages form q ++ y) x ahead few))
 pages-once form (a ∷ p) [] x y pf qf few nx ny e =
     let ahead : y ≡ sized_page form a ++ (sized_pages form p ++ x) = sym e ∙ ahead-of form a p x in
-    absurd (ny a (sized_pages form p ++ x) ahead pf.0 (few-front form a (sized_pages form p ++ x) y ahead (along (sized_pages form (a ∷ p) ++ x) y e few)))
+    absurd (ny a (sized_pages form p ++ x) ahead pf.0
+    (few-front form a (sized_pages form p ++ x) y ahead (along (sized_pages form (a ∷ p) ++ x) y e few)))
 pages-once form (a ∷ p) (b ∷ q) x y pf qf few nx ny e =
     let left : List ℕ = sized_pages form p ++ x in
     let right : List ℕ = sized_pages form q ++ y in
-    let both : sized_page form a ++ left ≡ sized_page form b ++ right = sym (ahead-of form a p x) ∙ e ∙ ahead-of form b q y in
+    let both : sized_page form a ++ left ≡ sized_page form b ++ right = sym (ahead-of form a p x) ∙ e
+    ∙ ahead-of form b q y in
     let size : length a ≡ length b =
     same-size form a b left right (few-front form a left (sized_pages form (a ∷ p) ++ x) (ahead-of form a p x) few)
-    (few-front form b right (sized_pages form (b ∷ q) ++ y) (ahead-of form b q y) (along (sized_pages form (a ∷ p) ++ x) (sized_pages form (b ∷ q) ++ y) e few)) both in
+    (few-front form b right (sized_pages form (b ∷ q) ++ y) (ahead-of form b q y)
+    (along (sized_pages form (a ∷ p) ++ x) (sized_pages form (b ∷ q) ++ y) e few)) both in
     let rest : a ++ left ≡ b ++ right = behind-size form a b left right both in
     let later : (p ≡ q) × (x ≡ y) =
-    pages-once form p q x y pf.1 qf.1 (few-behind form a left (sized_pages form (a ∷ p) ++ x) (ahead-of form a p x) few) nx ny (same-behind a b left right size rest) in
-    (ap (λ (t : List ℕ). t ∷ p) (same-front a b left right size rest) ∙ ap (λ (ps : List (List ℕ)). b ∷ ps) later.0, later.1)
+    pages-once form p q x y pf.1 qf.1 (few-behind form a left (sized_pages form (a ∷ p) ++ x) (ahead-of form a p x) few)
+    nx ny (same-behind a b left right size rest) in (
+      ap (λ (t : List ℕ). t ∷ p) (same-front a b left right size rest)
+          ∙ ap (λ (ps : List (List ℕ)). b ∷ ps) later.0,
+      later.1,
+    )
 
 -- pages that stand in front are the first of those that do
-pub pages-in-front : (form : Version) (told q : List (List ℕ)) (more y : List ℕ) → AreNotEmpty told → AreNotEmpty q → length (sized_pages form told ++ more) < 2 ^ 64
+pub pages-in-front : (form : Version) (told q : List (List ℕ)) (more y : List ℕ) → AreNotEmpty told → AreNotEmpty q
+    → length (sized_pages form told ++ more) < 2 ^ 64
     → NoPage form y → sized_pages form told ++ more ≡ sized_pages form q ++ y → IsPrefix told q
 pages-in-front form [] q more y tf qf few ny e = (q, refl)
 pages-in-front form (a ∷ told) [] more y tf qf few ny e =
     let ahead : y ≡ sized_page form a ++ (sized_pages form told ++ more) = sym e ∙ ahead-of form a told more in
-    absurd (ny a (sized_pages form told ++ more) ahead tf.0 (few-front form a (sized_pages form told ++ more) y ahead (along (sized_pages form (a ∷ told) ++ more) y e few)))
+    absurd (ny a (sized_pages form told ++ more) ahead tf.0
+    (few-front form a (sized_pages form told ++ more) y ahead
+    (along (sized_pages form (a ∷ told) ++ more) y e few)))
 pages-in-front form (a ∷ told) (b ∷ q) more y tf qf few ny e =
     let left : List ℕ = sized_pages form told ++ more in
     let right : List ℕ = sized_pages form q ++ y in
-    let both : sized_page form a ++ left ≡ sized_page form b ++ right = sym (ahead-of form a told more) ∙ e ∙ ahead-of form b q y in
+    let both : sized_page form a ++ left ≡ sized_page form b ++ right = sym (ahead-of form a told more) ∙ e
+    ∙ ahead-of form b q y in
     let size : length a ≡ length b =
-    same-size form a b left right (few-front form a left (sized_pages form (a ∷ told) ++ more) (ahead-of form a told more) few)
-    (few-front form b right (sized_pages form (b ∷ q) ++ y) (ahead-of form b q y) (along (sized_pages form (a ∷ told) ++ more) (sized_pages form (b ∷ q) ++ y) e few)) both in
+    same-size form a b left right (few-front form a left (sized_pages form (a ∷ told) ++ more)
+    (ahead-of form a told more) few)
+    (few-front form b right (sized_pages form (b ∷ q) ++ y) (ahead-of form b q y)
+    (along (sized_pages form (a ∷ told) ++ more) (sized_pages form (b ∷ q) ++ y) e few)) both in
     let rest : a ++ left ≡ b ++ right = behind-size form a b left right both in
     let later : IsPrefix told q =
-    pages-in-front form told q more y tf.1 qf.1 (few-behind form a left (sized_pages form (a ∷ told) ++ more) (ahead-of form a told more) few) ny (same-behind a b left right size rest) in
-    (later.0, ap (λ (t : List ℕ). t ∷ (told ++ later.0)) (same-front a b left right size rest) ∙ ap (λ (ps : List (List ℕ)). b ∷ ps) later.1)
+    pages-in-front form told q more y tf.1 qf.1
+    (few-behind form a left (sized_pages form (a ∷ told) ++ more) (ahead-of form a told more) few) ny
+    (same-behind a b left right size rest) in (
+      later.0,
+      ap (λ (t : List ℕ). t ∷ (told ++ later.0)) (same-front a b left right size rest)
+          ∙ ap (λ (ps : List (List ℕ)). b ∷ ps) later.1,
+    )
 
 -- ---- endings
 
@@ -119,8 +144,10 @@ pages-in-front form (a ∷ told) (b ∷ q) more y tf qf few ny e =
 pub whole-lasts : (form : Version) (x : List ℕ) → is_unfinished form (sized_page form [] ++ x) ≡ true → ⊥
 whole-lasts One x un = true≢false (sym un)
 whole-lasts Two x un =
-    let none : stands_somewhere (sized_page Two [] ++ x) ≡ false = not-so (stands_somewhere (sized_page Two [] ++ x)) (right-of _ _ un) in
-    let here : stands_in_front (sized_page Two [] ++ x) ≡ false = left-none (stands_in_front (sized_page Two [] ++ x)) _ none in
+    let none : stands_somewhere (sized_page Two [] ++ x) ≡ false =
+    not-so (stands_somewhere (sized_page Two [] ++ x)) (right-of _ _ un) in
+    let here : stands_in_front (sized_page Two [] ++ x) ≡ false =
+    left-none (stands_in_front (sized_page Two [] ++ x)) _ none in
     let there : stands_in_front (sized_page Two [] ++ x) ≡ true = ap is_none (whole-front Two [] x (omega arith)) in
     true≢false (sym there ∙ here)
 
@@ -137,11 +164,13 @@ none-long x e one = let none : length x ≡ 0 = ap length e in omega (arith, non
 pub endings-once : (form : Version) (x : List ℕ) (e f : Ending) → EndsBy form x e → EndsBy form x f → e ≡ f
 endings-once form x GoesOn GoesOn a b = refl
 endings-once form x GoesOn Over a b = absurd (none-long x a.0 (over-long form x b))
-endings-once form x GoesOn (Torn n) a b = absurd (let none : length x ≡ 0 = ap length a.0 in omega (arith, none, b.0, b.1))
+endings-once form x GoesOn (Torn n) a b =
+    absurd (let none : length x ≡ 0 = ap length a.0 in omega (arith, none, b.0, b.1))
 endings-once form x Over GoesOn a b = absurd (none-long x b.0 (over-long form x a))
 endings-once form x Over Over a b = refl
 endings-once form x Over (Torn n) a b = absurd (over-lasts form x a b.2)
-endings-once form x (Torn m) GoesOn a b = absurd (let none : length x ≡ 0 = ap length b.0 in omega (arith, none, a.0, a.1))
+endings-once form x (Torn m) GoesOn a b =
+    absurd (let none : length x ≡ 0 = ap length b.0 in omega (arith, none, a.0, a.1))
 endings-once form x (Torn m) Over a b = absurd (over-lasts form x b a.2)
 endings-once form x (Torn m) (Torn n) a b = ap Torn (a.1 ∙ sym b.1)
 

@@ -1,5 +1,6 @@
 -- What stands in front of bytes, and at some place of them.
-use Rattle.std.proofs.Common.{◌≡◌, ◌≤◌, ◌<◌, ◌^◌, ℕ, ◌+◌, Bool, true, false, Some, List, [], ◌∷◌, ◌++◌, length, refl, sym, ap, ◌∙◌, arith, length-append}
+use Rattle.std.proofs.Common.{◌≡◌, ◌≤◌, ◌<◌, ◌^◌, ℕ, ◌+◌, Bool, true, false, Some, List, [], ◌∷◌, ◌++◌, length, refl}
+use Rattle.std.proofs.Common.{sym, ap, ◌∙◌, arith, length-append}
 use Rattle.std.proofs.lemmas.Bool.Decides.{nat_tests}
 use Rattle.std.proofs.lemmas.Nat.{from_be_bytes-to_be_bytes_8}
 use Rattle.std.specs.Int.{w64, to_be_bytes}
@@ -10,21 +11,27 @@ use Rattle.journal_file.specs.Endings.{stands_in_front, stands_somewhere}
 use Rattle.journal_file.specs.File.{front_fault, is_end_of_one, size_in, sized_page}
 use Rattle.journal_file.proofs.One.{few-front, whole-front}
 
-pub whole-stands : (bytes page rest : List ℕ) → bytes ≡ sized_page Two page ++ rest → length bytes < 2 ^ 64 → true ≡ stands_in_front bytes
-whole-stands bytes page rest is few = sym (ap is_none (ap (front_fault Two) is ∙ whole-front Two page rest (few-front Two page rest bytes is few)))
+pub whole-stands : (bytes page rest : List ℕ) → bytes ≡ sized_page Two page ++ rest → length bytes < 2 ^ 64
+    → true ≡ stands_in_front bytes
+whole-stands bytes page rest is few = sym
+    (ap is_none (ap (front_fault Two) is ∙ whole-front Two page rest (few-front Two page rest bytes is few)))
 
-pub none-stands : (bytes : List ℕ) (fault : FileFault) → front_fault Two bytes ≡ Some fault → false ≡ stands_in_front bytes
+pub none-stands : (bytes : List ℕ) (fault : FileFault) → front_fault Two bytes ≡ Some fault
+    → false ≡ stands_in_front bytes
 none-stands bytes fault is = sym (ap is_none is)
 
-pub none-here : (b : ℕ) (rest behind : List ℕ) → rest ≡ b ∷ behind → stands_in_front rest ≡ false → stands_somewhere behind ≡ stands_somewhere rest
+pub none-here : (b : ℕ) (rest behind : List ℕ) → rest ≡ b ∷ behind → stands_in_front rest ≡ false
+    → stands_somewhere behind ≡ stands_somewhere rest
 none-here b rest behind is none =
     sym (ap stands_somewhere is ∙ ap (λ (x : Bool). x || stands_somewhere behind) (ap stands_in_front (sym is) ∙ none))
 
-pub some-here : (b : ℕ) (rest behind : List ℕ) → rest ≡ b ∷ behind → stands_in_front rest ≡ true → true ≡ stands_somewhere rest
+pub some-here : (b : ℕ) (rest behind : List ℕ) → rest ≡ b ∷ behind → stands_in_front rest ≡ true
+    → true ≡ stands_somewhere rest
 some-here b rest behind is some =
     sym (ap stands_somewhere is ∙ ap (λ (x : Bool). x || stands_somewhere behind) (ap stands_in_front (sym is) ∙ some))
 
-pub end-of-one : (file rest : List ℕ) (n : ℕ) → file ≡ to_be_bytes w64 n ++ rest → n < 2 ^ 64 → is_end_of_one file ≡ ((length rest == 0) && (n == 0))
+pub end-of-one : (file rest : List ℕ) (n : ℕ) → file ≡ to_be_bytes w64 n ++ rest → n < 2 ^ 64
+    → is_end_of_one file ≡ ((length rest == 0) && (n == 0))
 end-of-one file rest n is few =
     let size : size_in file ≡ n = ap size_in is ∙ from_be_bytes-to_be_bytes_8 n few in
     let all : length file ≡ length (to_be_bytes w64 n ++ rest) = ap length is in

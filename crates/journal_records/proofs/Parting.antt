@@ -18,7 +18,8 @@ pub no-part-said : (s : BatchSaid) (rs : List Record) → first_part rs ≡ None
 no-part-said s [] e = refl
 no-part-said s (r ∷ rs) e = by_test (is_part r.kind) e
   where
-    by_test : (b : Bool) → (if b then Some r else None) ≡ None → (if b then parts_said (said_more r.kind r s) rs else s) ≡ s
+    by_test : (b : Bool) → (if b then Some r else None) ≡ None
+        → (if b then parts_said (said_more r.kind r s) rs else s) ≡ s
     by_test true e = let no : ⊥ = cc in absurd no
     by_test false e = refl
 
@@ -34,13 +35,15 @@ is-first : (b : Bool) (r x : Record) → (if b then Some r else None) ≡ Some x
 is-first true r x e = refl
 is-first false r x e = let no : ⊥ = cc in absurd no
 
-pub part-said : (s : BatchSaid) (all : List Record) (r : Record) (rs : List Record) → first_part all ≡ Some r → all ≡ r ∷ rs → parts_said s all ≡ parts_said (said_more r.kind r s) rs
+pub part-said : (s : BatchSaid) (all : List Record) (r : Record) (rs : List Record) → first_part all ≡ Some r
+    → all ≡ r ∷ rs → parts_said s all ≡ parts_said (said_more r.kind r s) rs
 part-said s all r rs first is =
     let front : first_part (r ∷ rs) ≡ Some r = ap first_part (sym is) ∙ first in
     let part : is_part r.kind ≡ true = is-first (is_part r.kind) r r front in
     ap (parts_said s) is ∙ rw part refl
 
-pub part-behind : (all : List Record) (r : Record) (rs : List Record) → first_part all ≡ Some r → all ≡ r ∷ rs → behind_parts all ≡ behind_parts rs
+pub part-behind : (all : List Record) (r : Record) (rs : List Record) → first_part all ≡ Some r → all ≡ r ∷ rs
+    → behind_parts all ≡ behind_parts rs
 part-behind all r rs first is =
     let front : first_part (r ∷ rs) ≡ Some r = ap first_part (sym is) ∙ first in
     let part : is_part r.kind ≡ true = is-first (is_part r.kind) r r front in
@@ -52,7 +55,8 @@ pub record IsReport (payload : List ℕ) : Type 0 where
   pub fields : is_some (fields_of payload) ≡ true
   pub few : length payload < 1_048_576
 
-report-payload : (k : RecordKind) (payload : List ℕ) → k ≡ kinds.Report → payload_fits k payload ≡ true → is_some (fields_of payload) ≡ true
+report-payload : (k : RecordKind) (payload : List ℕ) → k ≡ kinds.Report → payload_fits k payload ≡ true
+    → is_some (fields_of payload) ≡ true
 report-payload k payload is fits = subst (λ (x : RecordKind). payload_fits x payload ≡ true) is fits
 
 pub report-of : (r : Record) → is_sound r ≡ true → r.kind ≡ kinds.Report → IsReport r.payload
@@ -68,5 +72,6 @@ pub same-fields : (payload : List ℕ) → fields_in payload ≡ payload_fields 
 unfolding fields_in
 same-fields payload = refl
 
-pub same-size : (payload : List ℕ) → is_some (fields_of payload) ≡ true → length (fields_text (payload_fields payload)) ≡ length payload
+pub same-size : (payload : List ℕ) → is_some (fields_of payload) ≡ true
+    → length (fields_text (payload_fields payload)) ≡ length payload
 same-size payload e = ap length (text-kept payload (fields_of payload) refl e)

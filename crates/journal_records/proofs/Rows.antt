@@ -26,14 +26,19 @@ not-zero : (n : ℕ) → 1 ≤ n → (n == 0) ≡ false
 not-zero n some = grind (arith, nat_tests)
 
 pub read-written : (e : Event) → 1 ≤ (event_record e).source → AreItsFields e → event_in (event_record e) ≡ Some e
-read-written (events.ClientUp client link at) some good = let is : (client == 0) ≡ false = not-zero client some in rw is refl
+read-written (events.ClientUp client link at) some good = let is : (client == 0) ≡ false = not-zero client some in
+    rw is refl
 read-written (events.ClientMessage client link at frame) some good =
     let is : (client == 0) ≡ false = not-zero client some in
-    rw is (ap (λ (found : Option Message). Some (events.ClientMessage client link at (unwrap_or found []))) (fields_of-fields_text frame good))
-read-written (events.ClientGone client link at) some good = let is : (client == 0) ≡ false = not-zero client some in rw is refl
-read-written (events.ClientTick client at) some good = let is : (client == 0) ≡ false = not-zero client some in rw is refl
+    rw is (ap (λ (found : Option Message). Some (events.ClientMessage client link at (unwrap_or found [])))
+    (fields_of-fields_text frame good))
+read-written (events.ClientGone client link at) some good = let is : (client == 0) ≡ false = not-zero client some in
+    rw is refl
+read-written (events.ClientTick client at) some good = let is : (client == 0) ≡ false = not-zero client some in
+    rw is refl
 read-written (events.PortUp port link at) some good = let is : (port == 0) ≡ false = not-zero port some in rw is refl
-read-written (events.PortPacket port link at packet) some good = let is : (port == 0) ≡ false = not-zero port some in rw is refl
+read-written (events.PortPacket port link at packet) some good = let is : (port == 0) ≡ false = not-zero port some in
+    rw is refl
 read-written (events.PortGone port link at) some good = let is : (port == 0) ≡ false = not-zero port some in rw is refl
 read-written (events.PortTick port at) some good = let is : (port == 0) ≡ false = not-zero port some in rw is refl
 
@@ -50,8 +55,10 @@ few-of n e = grind (arith, nat_tests)
 
 pub has : (r : Record) → is_sound r ≡ true → Has r
 has r sound =
-    let all = and_parts (nat_lt (length r.payload) payload_limit) (payload_fits r.kind r.payload && (source_fits r.kind r.source && link_fits r.kind r.link)) sound in
-    let some = and_parts (payload_fits r.kind r.payload) (source_fits r.kind r.source && link_fits r.kind r.link) all.1 in
+    let all = and_parts (nat_lt (length r.payload) payload_limit)
+    (payload_fits r.kind r.payload && (source_fits r.kind r.source && link_fits r.kind r.link)) sound in
+    let some = and_parts (payload_fits r.kind r.payload) (source_fits r.kind r.source && link_fits r.kind r.link) all.1
+    in
     let last = and_parts (source_fits r.kind r.source) (link_fits r.kind r.link) some.1 in
     record { few = few-of (length r.payload) all.0; payload = some.0; source = last.0; link = last.1 }
 
@@ -62,7 +69,8 @@ empty (x ∷ l) e = let no : ⊥ = grind (arith, nat_tests) in absurd no
 zero-is : (n : ℕ) → (n == 0) ≡ true → n ≡ 0
 zero-is n e = grind (arith, nat_tests)
 
-pub text-kept : (payload : List ℕ) (found : Option Message) → fields_of payload ≡ found → is_some found ≡ true → fields_text (unwrap_or found []) ≡ payload
+pub text-kept : (payload : List ℕ) (found : Option Message) → fields_of payload ≡ found → is_some found ≡ true
+    → fields_text (unwrap_or found []) ≡ payload
 text-kept payload None e is = let no : ⊥ = cc in absurd no
 text-kept payload (Some fs) e is = (fields_of-found payload fs e).spelled
 
@@ -74,9 +82,11 @@ pub record IsFrame (payload : List ℕ) : Type 0 where
 few-bytes : (n : ℕ) → nat_le n longest_frame ≡ true → n ≤ 8_192
 few-bytes n e = grind (arith, nat_tests)
 
-frame-payload : (k : RecordKind) (payload : List ℕ) → k ≡ kinds.ClientMessage → payload_fits k payload ≡ true → IsFrame payload
+frame-payload : (k : RecordKind) (payload : List ℕ) → k ≡ kinds.ClientMessage → payload_fits k payload ≡ true
+    → IsFrame payload
 frame-payload k payload is fits =
-    let told : (is_some (fields_of payload) && nat_le (length payload) longest_frame) ≡ true = subst (λ (x : RecordKind). payload_fits x payload ≡ true) is fits in
+    let told : (is_some (fields_of payload) && nat_le (length payload) longest_frame) ≡ true =
+    subst (λ (x : RecordKind). payload_fits x payload ≡ true) is fits in
     let both = and_parts (is_some (fields_of payload)) (nat_le (length payload) longest_frame) told in
     record { fields = both.0; few = few-bytes (length payload) both.1 }
 
@@ -85,7 +95,8 @@ frame-of r sound is = frame-payload r.kind r.payload is (has r sound).payload
 
 -- a packet's
 size-is : (high low n : ℕ) → (from_be_bytes w16 (high ∷ low ∷ []) + 2 == n + 3) ≡ true → high * 256 + low ≡ n + 1
-size-is high low n e = let same : from_be_bytes w16 (high ∷ low ∷ []) + 2 ≡ n + 3 = grind (arith, nat_tests) in omega (arith, same)
+size-is high low n e = let same : from_be_bytes w16 (high ∷ low ∷ []) + 2 ≡ n + 3 = grind (arith, nat_tests) in
+    omega (arith, same)
 
 three-more : (l : List ℕ) (high low kind : ℕ) → length (high ∷ low ∷ kind ∷ l) ≡ length l + 3
 three-more l high low kind = omega arith
@@ -95,19 +106,24 @@ whole-packet [] e = let no : ⊥ = cc in absurd no
 whole-packet (high ∷ []) e = let no : ⊥ = cc in absurd no
 whole-packet (high ∷ low ∷ []) e = let no : ⊥ = cc in absurd no
 whole-packet (high ∷ low ∷ kind ∷ l) e =
-    let size : (from_be_bytes w16 (high ∷ low ∷ []) + 2 == length (high ∷ low ∷ kind ∷ l)) ≡ true = (and_parts (nat_le 3 (length (high ∷ low ∷ kind ∷ l))) _ e).1 in
-    size-is high low (length l) (subst (λ n. (from_be_bytes w16 (high ∷ low ∷ []) + 2 == n) ≡ true) (three-more l high low kind) size)
+    let size : (from_be_bytes w16 (high ∷ low ∷ []) + 2 == length (high ∷ low ∷ kind ∷ l)) ≡ true =
+    (and_parts (nat_le 3 (length (high ∷ low ∷ kind ∷ l))) _ e).1 in
+    size-is high low (length l) (subst (λ n. (from_be_bytes w16 (high ∷ low ∷ []) + 2 == n) ≡ true)
+    (three-more l high low kind) size)
 
-packet-kind : (k : RecordKind) (payload : List ℕ) → k ≡ kinds.PortPacket → payload_fits k payload ≡ true → is_packet payload ≡ true
+packet-kind : (k : RecordKind) (payload : List ℕ) → k ≡ kinds.PortPacket → payload_fits k payload ≡ true
+    → is_packet payload ≡ true
 packet-kind k payload is fits = subst (λ (x : RecordKind). payload_fits x payload ≡ true) is fits
 
 pub packet-of : (r : Record) → is_sound r ≡ true → r.kind ≡ kinds.PortPacket → IsWhole r.payload
 packet-of r sound is = whole-packet r.payload (packet-kind r.kind r.payload is (has r sound).payload)
 
-bytes-of : (size high low : ℕ) → high < 256 → low < 256 → high * 256 + low ≡ size → (size / 256 ≡ high) × (size % 256 ≡ low)
+bytes-of : (size high low : ℕ) → high < 256 → low < 256 → high * 256 + low ≡ size
+    → (size / 256 ≡ high) × (size % 256 ≡ low)
 bytes-of size high low a b e = (omega arith, omega arith)
 
-packet-kept : (payload : List ℕ) → ((i : ℕ) → get_or payload i 0 < 256) → IsWhole payload → packet_bytes (payload_packet payload) ≡ payload
+packet-kept : (payload : List ℕ) → ((i : ℕ) → get_or payload i 0 < 256) → IsWhole payload
+    → packet_bytes (payload_packet payload) ≡ payload
 packet-kept [] below whole = absurd whole
 packet-kept (high ∷ []) below whole = absurd whole
 packet-kept (high ∷ low ∷ []) below whole = absurd whole
@@ -115,9 +131,11 @@ packet-kept (high ∷ low ∷ kind ∷ l) below whole =
     let both = bytes-of (length l + 1) high low (below 0) (below 1) whole in
     rw (both.0, both.1) refl
 
-pub packet-got : (read : Option Packet) (packet : Packet) (payload : List ℕ) → read ≡ Some packet → IfSome read (λ p. packet_bytes p ≡ payload) → packet ≡ payload_packet payload
+pub packet-got : (read : Option Packet) (packet : Packet) (payload : List ℕ) → read ≡ Some packet
+    → IfSome read (λ p. packet_bytes p ≡ payload) → packet ≡ payload_packet payload
 packet-got read packet payload is told =
-    let bytes : packet_bytes packet ≡ payload = subst (λ (o : Option Packet). IfSome o (λ p. packet_bytes p ≡ payload)) is told in
+    let bytes : packet_bytes packet ≡ payload =
+    subst (λ (o : Option Packet). IfSome o (λ p. packet_bytes p ≡ payload)) is told in
     ap payload_packet bytes
 
 -- ---- read, then written
@@ -129,10 +147,14 @@ none : (e : Event) → None ≡ Some e → ⊥
 none e is = cc
 
 module _ (source link at : ℕ) (payload : List ℕ) (e : Event) (below : (i : ℕ) → get_or payload i 0 < 256) where
-  bare : (k : RecordKind) (x : Event) → Some x ≡ Some e → event_record x ≡ record_with k source link at [] → (length payload == 0) ≡ true → event_record e ≡ record_with k source link at payload
-  bare k x is row none = ap event_record (sym (known x e is)) ∙ row ∙ ap (record_with k source link at) (sym (empty payload none))
+  bare : (k : RecordKind) (x : Event) → Some x ≡ Some e → event_record x ≡ record_with k source link at []
+      → (length payload == 0) ≡ true → event_record e ≡ record_with k source link at payload
+  bare k x is row none = ap event_record (sym (known x e is)) ∙ row
+      ∙ ap (record_with k source link at) (sym (empty payload none))
 
-  written-read : (k : RecordKind) → Has (record_with k source link at payload) → event_of_kind k (record_with k source link at payload) ≡ Some e → event_record e ≡ record_with k source link at payload
+  written-read : (k : RecordKind) → Has (record_with k source link at payload)
+      → event_of_kind k (record_with k source link at payload) ≡ Some e
+      → event_record e ≡ record_with k source link at payload
   written-read kinds.ClientUp h is = bare kinds.ClientUp (events.ClientUp source link at) is refl h.payload
   written-read kinds.ClientMessage h is =
       let frame = frame-payload kinds.ClientMessage payload refl h.payload in
@@ -145,9 +167,11 @@ module _ (source link at : ℕ) (payload : List ℕ) (e : Event) (below : (i : �
       ∙ ap (record_with kinds.PortPacket source link at) (packet-kept payload below (whole-packet payload h.payload))
   written-read kinds.PortGone h is = bare kinds.PortGone (events.PortGone source link at) is refl h.payload
   written-read kinds.ClientTick h is =
-      bare kinds.ClientTick (events.ClientTick source at) is (ap (λ n. record_with kinds.ClientTick source n at []) (sym (zero-is link h.link))) h.payload
+      bare kinds.ClientTick (events.ClientTick source at) is
+      (ap (λ n. record_with kinds.ClientTick source n at []) (sym (zero-is link h.link))) h.payload
   written-read kinds.PortTick h is =
-      bare kinds.PortTick (events.PortTick source at) is (ap (λ n. record_with kinds.PortTick source n at []) (sym (zero-is link h.link))) h.payload
+      bare kinds.PortTick (events.PortTick source at) is
+      (ap (λ n. record_with kinds.PortTick source n at []) (sym (zero-is link h.link))) h.payload
   written-read kinds.Report h is = absurd (none e is)
   written-read kinds.ClientWrite h is = absurd (none e is)
   written-read kinds.ClientClose h is = absurd (none e is)
@@ -160,6 +184,8 @@ of-somebody : (b : Bool) (found : Option Event) (e : Event) → (if b then None 
 of-somebody true found e is = absurd (none e is)
 of-somebody false found e is = is
 
-pub read-is-written : (r : Record) (e : Event) → is_sound r ≡ true → ((i : ℕ) → get_or r.payload i 0 < 256) → event_in r ≡ Some e → event_record e ≡ r
+pub read-is-written : (r : Record) (e : Event) → is_sound r ≡ true → ((i : ℕ) → get_or r.payload i 0 < 256)
+    → event_in r ≡ Some e → event_record e ≡ r
 read-is-written r e sound below is =
-    written-read r.source r.link r.at r.payload e below r.kind (has r sound) (of-somebody (r.source == 0) (event_of_kind r.kind r) e is)
+    written-read r.source r.link r.at r.payload e below r.kind (has r sound)
+    (of-somebody (r.source == 0) (event_of_kind r.kind r) e is)

@@ -33,7 +33,8 @@ with-both (Some e) xs ys = refl
 
 pub events-both : (rs more : List Record) → events_in (rs ++ more) ≡ events_in rs ++ events_in more
 events-both [] more = refl
-events-both (r ∷ rs) more = ap (with_event (event_in r)) (events-both rs more) ∙ sym (with-both (event_in r) (events_in rs) (events_in more))
+events-both (r ∷ rs) more = ap (with_event (event_in r)) (events-both rs more)
+    ∙ sym (with-both (event_in r) (events_in rs) (events_in more))
 
 -- records that are no event
 abbrev NoEvents : List Record → Type 0
@@ -68,8 +69,11 @@ module _ (at : ℕ) where
       let c : ℕ = named_number b.client in
       let p : ℕ = named_number b.port in
       no-both (client_records at c b.reports b.client_out) (port_records at p b.port_out b.fault)
-      (no-both (map (report_record at c) b.reports) (map (out_record kinds.ClientWrite kinds.ClientClose at c) b.client_out) (no-reports c b.reports) (no-told c b.client_out))
-      (no-both (map (out_record kinds.PortWrite kinds.PortClose at p) b.port_out) (fault_records at p b.fault ++ end_record at ∷ []) (no-sent p b.port_out) (no-ending p b.fault))
+      (no-both (map (report_record at c) b.reports)
+      (map (out_record kinds.ClientWrite kinds.ClientClose at c) b.client_out) (no-reports c b.reports)
+      (no-told c b.client_out))
+      (no-both (map (out_record kinds.PortWrite kinds.PortClose at p) b.port_out)
+      (fault_records at p b.fault ++ end_record at ∷ []) (no-sent p b.port_out) (no-ending p b.fault))
 
 no-events : (rs : List Record) → NoEvents rs → events_in rs ≡ []
 no-events [] are = refl
@@ -83,19 +87,28 @@ some-of : (n : ℕ) → not (n == 0) ≡ true → 1 ≤ n
 some-of n e = grind (arith, nat_tests)
 
 of-somebody : (e : Event) → is_sound (event_record e) ≡ true → 1 ≤ (event_record e).source
-of-somebody (events.ClientUp client link at) sound = some-of client (has (event_record (events.ClientUp client link at)) sound).source
-of-somebody (events.ClientMessage client link at frame) sound = some-of client (has (event_record (events.ClientMessage client link at frame)) sound).source
-of-somebody (events.ClientGone client link at) sound = some-of client (has (event_record (events.ClientGone client link at)) sound).source
-of-somebody (events.ClientTick client at) sound = some-of client (has (event_record (events.ClientTick client at)) sound).source
-of-somebody (events.PortUp port link at) sound = some-of port (has (event_record (events.PortUp port link at)) sound).source
-of-somebody (events.PortPacket port link at packet) sound = some-of port (has (event_record (events.PortPacket port link at packet)) sound).source
-of-somebody (events.PortGone port link at) sound = some-of port (has (event_record (events.PortGone port link at)) sound).source
+of-somebody (events.ClientUp client link at) sound =
+    some-of client (has (event_record (events.ClientUp client link at)) sound).source
+of-somebody (events.ClientMessage client link at frame) sound =
+    some-of client (has (event_record (events.ClientMessage client link at frame)) sound).source
+of-somebody (events.ClientGone client link at) sound =
+    some-of client (has (event_record (events.ClientGone client link at)) sound).source
+of-somebody (events.ClientTick client at) sound =
+    some-of client (has (event_record (events.ClientTick client at)) sound).source
+of-somebody (events.PortUp port link at) sound =
+    some-of port (has (event_record (events.PortUp port link at)) sound).source
+of-somebody (events.PortPacket port link at packet) sound =
+    some-of port (has (event_record (events.PortPacket port link at packet)) sound).source
+of-somebody (events.PortGone port link at) sound =
+    some-of port (has (event_record (events.PortGone port link at)) sound).source
 of-somebody (events.PortTick port at) sound = some-of port (has (event_record (events.PortTick port at)) sound).source
 
 pub turn-events : (e : Event) (b : Batch) → IsTurn e b → events_in (turn_records e b) ≡ e ∷ []
 turn-events e b is =
-    ap (λ (o : Option Event). with_event o (events_in (batch_records (event_record e).at b))) (read-written e (of-somebody e is.writable.sound) is.fields)
-    ∙ ap (λ (es : List Event). e ∷ es) (no-events (batch_records (event_record e).at b) (no-batch (event_record e).at b))
+    ap (λ (o : Option Event). with_event o (events_in (batch_records (event_record e).at b)))
+    (read-written e (of-somebody e is.writable.sound) is.fields)
+    ∙ ap (λ (es : List Event). e ∷ es) (no-events (batch_records (event_record e).at b)
+    (no-batch (event_record e).at b))
 
 -- ---- batches
 
@@ -105,22 +118,28 @@ no-part b x y e = rw e refl
 both-parts-said : (b : Bool) (x y s : BatchSaid) → x ≡ y → (if b then x else s) ≡ (if b then y else s)
 both-parts-said b x y s e = ap (λ (z : BatchSaid). if b then z else s) e
 
-stops : (s : BatchSaid) (rs : List Record) (r : Record) (more : List Record) → is_part r.kind ≡ false → parts_said s (rs ++ r ∷ more) ≡ parts_said s rs
+stops : (s : BatchSaid) (rs : List Record) (r : Record) (more : List Record) → is_part r.kind ≡ false
+    → parts_said s (rs ++ r ∷ more) ≡ parts_said s rs
 stops s [] r more is = no-part (is_part r.kind) (parts_said (said_more r.kind r s) more) s is
 stops s (x ∷ rs) r more is =
-    both-parts-said (is_part x.kind) (parts_said (said_more x.kind x s) (rs ++ r ∷ more)) (parts_said (said_more x.kind x s) rs) s (stops (said_more x.kind x s) rs r more is)
+    both-parts-said (is_part x.kind) (parts_said (said_more x.kind x s) (rs ++ r ∷ more))
+    (parts_said (said_more x.kind x s) rs) s (stops (said_more x.kind x s) rs r more is)
 
-batch-stops : (rs : List Record) (r : Record) (more : List Record) → is_part r.kind ≡ false → batch_in (rs ++ r ∷ more) ≡ batch_in rs
+batch-stops : (rs : List Record) (r : Record) (more : List Record) → is_part r.kind ≡ false
+    → batch_in (rs ++ r ∷ more) ≡ batch_in rs
 batch-stops rs r more is = ap batch_said (stops nothing_said rs r more is)
 
-one-batch : (b : Bool) (x y : Batch) (xs ys more : List Batch) → x ≡ y → xs ≡ ys ++ more → (if b then x ∷ xs else xs) ≡ (if b then y ∷ ys else ys) ++ more
+one-batch : (b : Bool) (x y : Batch) (xs ys more : List Batch) → x ≡ y → xs ≡ ys ++ more
+    → (if b then x ∷ xs else xs) ≡ (if b then y ∷ ys else ys) ++ more
 one-batch true x y xs ys more same all = ap (λ (b : Batch). b ∷ xs) same ∙ ap (λ (bs : List Batch). y ∷ bs) all
 one-batch false x y xs ys more same all = all
 
-pub batches-both : (rs : List Record) (r : Record) (more : List Record) → is_part r.kind ≡ false → batches_in (rs ++ r ∷ more) ≡ batches_in rs ++ batches_in (r ∷ more)
+pub batches-both : (rs : List Record) (r : Record) (more : List Record) → is_part r.kind ≡ false
+    → batches_in (rs ++ r ∷ more) ≡ batches_in rs ++ batches_in (r ∷ more)
 batches-both [] r more is = refl
 batches-both (x ∷ rs) r more is =
-    one-batch (is_event x.kind) (batch_in (rs ++ r ∷ more)) (batch_in rs) (batches_in (rs ++ r ∷ more)) (batches_in rs) (batches_in (r ∷ more)) (batch-stops rs r more is) (batches-both rs r more is)
+    one-batch (is_event x.kind) (batch_in (rs ++ r ∷ more)) (batch_in rs) (batches_in (rs ++ r ∷ more)) (batches_in rs)
+    (batches_in (r ∷ more)) (batch-stops rs r more is) (batches-both rs r more is)
 
 event-no-part : (e : Event) → is_part (event_record e).kind ≡ false
 event-no-part (events.ClientUp client link at) = refl
@@ -136,13 +155,17 @@ pub turn-batches : (e : Event) (b : Batch) → IsTurn e b → batches_in (turn_r
 turn-batches e b is =
     let rs : List Record = batch_records (event_record e).at b in
     ap (λ t. if t then batch_in rs ∷ batches_in rs else batches_in rs) (event-is e)
-    ∙ ap (λ (x : Batch). x ∷ batches_in rs) (ap batch_in (sym (append-nil rs)) ∙ batch-read (event_record e).at b [] is.batch.whole)
+    ∙ ap (λ (x : Batch). x ∷ batches_in rs) (ap batch_in (sym (append-nil rs))
+    ∙ batch-read (event_record e).at b [] is.batch.whole)
     ∙ ap (λ (bs : List Batch). b ∷ bs) (no-batches rs (no-batch (event_record e).at b))
 
-pub more-events : (rs : List Record) (e : Event) (b : Batch) → IsTurn e b → events_in (rs ++ turn_records e b) ≡ events_in rs ++ e ∷ []
-more-events rs e b is = events-both rs (turn_records e b) ∙ ap (λ (es : List Event). events_in rs ++ es) (turn-events e b is)
+pub more-events : (rs : List Record) (e : Event) (b : Batch) → IsTurn e b
+    → events_in (rs ++ turn_records e b) ≡ events_in rs ++ e ∷ []
+more-events rs e b is = events-both rs (turn_records e b)
+    ∙ ap (λ (es : List Event). events_in rs ++ es) (turn-events e b is)
 
-pub more-batches : (rs : List Record) (e : Event) (b : Batch) → IsTurn e b → batches_in (rs ++ turn_records e b) ≡ batches_in rs ++ b ∷ []
+pub more-batches : (rs : List Record) (e : Event) (b : Batch) → IsTurn e b
+    → batches_in (rs ++ turn_records e b) ≡ batches_in rs ++ b ∷ []
 more-batches rs e b is =
     batches-both rs (event_record e) (batch_records (event_record e).at b) (event-no-part e)
     ∙ ap (λ (bs : List Batch). batches_in rs ++ bs) (turn-batches e b is)

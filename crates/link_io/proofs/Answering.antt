@@ -11,7 +11,8 @@ use Rattle.link_io.specs.Answered.{FillsBy, NoneFailed, ReadsBy}
 
 module _ {S : Type 0} (did_read : S → Option ℕ → S → Type 0) (old new : S) where
   -- a fault in what was made: no read failed
-  pub by_making : {D : Type 0} (made : D → List ℕ → List law.Event → Type 0) (are_all : D → Bool → List ℕ → List law.Event → Type 0) (at : ℕ)
+  pub by_making : {D : Type 0} (made : D → List ℕ → List law.Event → Type 0)
+      (are_all : D → Bool → List ℕ → List law.Event → Type 0) (at : ℕ)
       (r : Result Progress LinkFault) (fault : LinkFault) (a b : Reading D) (x y : List law.Event) → r ≡ Err fault
       → Puts made are_all at (Err fault) a b x y → NoneFailed did_read old new → ReadsBy did_read r old new
   by_making made are_all at r fault a b x y e p none =
@@ -25,7 +26,8 @@ module _ {S : Type 0} (did_read : S → Option ℕ → S → Type 0) (old new : 
       by_fault StepLimit p = absurd p.says
 
   -- a read that failed
-  pub by_failing : (r : Result Progress LinkFault) (fault : LinkFault) (piece : List ℕ) (s t : Option (List ℕ)) → r ≡ Err fault
+  pub by_failing : (r : Result Progress LinkFault) (fault : LinkFault) (piece : List ℕ) (s t : Option (List ℕ))
+      → r ≡ Err fault
       → Fills (Err fault) piece s t → FillsBy did_read (Err fault) old new → ReadsBy did_read r old new
   by_failing r fault piece s t e fills failed =
       subst (λ (q : Result Progress LinkFault). ReadsBy did_read q old new) (sym e) (by_fault fault fills)

@@ -14,7 +14,8 @@ bring_more port link (p ∷ packets) [] packet event at so_far e = absurd so_far
 bring_more port link (p ∷ packets) (x ∷ events) packet event at so_far e =
     (so_far.0, bring_more port link packets events packet event at so_far.1 e)
 
-pub makes_packet : (old p : PacketsOfLink) (at : ℕ) (r : BytesHeld) (packet : Packet) → NextPacket (Ok (Some packet)) p.packets r → old ≡ p
+pub makes_packet : (old p : PacketsOfLink) (at : ℕ) (r : BytesHeld) (packet : Packet)
+    → NextPacket (Ok (Some packet)) p.packets r → old ≡ p
     → ((taken : List ℕ) (events : List Event) → MadeOfPackets old taken events
     → MadeOfPackets (record p { packets = r }) taken (events ++ PortPacket p.port p.link at packet ∷ []))
     × (length r.held < length old.packets.held)

@@ -29,10 +29,12 @@ joins_again a b c p q = record {
   limit = q.limit ∙ p.limit;
 }
 
-lists_append : (link : ℕ) (xs ys : List (List LinkOut)) → lists_bytes link (xs ++ ys) ≡ lists_bytes link xs ++ lists_bytes link ys
+lists_append : (link : ℕ) (xs ys : List (List LinkOut))
+    → lists_bytes link (xs ++ ys) ≡ lists_bytes link xs ++ lists_bytes link ys
 lists_append link [] ys = refl
 lists_append link (x ∷ xs) ys =
-    ap (λ (l : List ℕ). link_bytes link x ++ l) (lists_append link xs ys) ∙ sym (append_assoc (link_bytes link x) (lists_bytes link xs) (lists_bytes link ys))
+    ap (λ (l : List ℕ). link_bytes link x ++ l) (lists_append link xs ys)
+    ∙ sym (append_assoc (link_bytes link x) (lists_bytes link xs) (lists_bytes link ys))
 
 or_assoc : (a b c : Bool) → ((a || b) || c) ≡ (a || (b || c))
 or_assoc true b c = refl
@@ -46,7 +48,8 @@ or_true : (a : Bool) → (a || true) ≡ true
 or_true true = refl
 or_true false = refl
 
-close_append : (link : ℕ) (xs ys : List (List LinkOut)) → do_close link (xs ++ ys) ≡ (do_close link xs || do_close link ys)
+close_append : (link : ℕ) (xs ys : List (List LinkOut))
+    → do_close link (xs ++ ys) ≡ (do_close link xs || do_close link ys)
 close_append link [] ys = refl
 close_append link (x ∷ xs) ys =
     ap (λ (b : Bool). is_link_closed (Some link) x || b) (close_append link xs ys)
@@ -73,14 +76,17 @@ pub joined_refills : (a b c : WriterState) (x y : List (List LinkOut)) → Joins
 joined_refills a b c x y p q = record {
   taken = q.taken;
   takes = q.takes;
-  whole = q.whole ∙ (ap (λ (l : List ℕ). l ++ lists_bytes b.link q.taken) p.whole ∙ ap (λ (n : ℕ). unwritten a ++ lists_bytes n q.taken) p.link);
+  whole = q.whole ∙ (ap (λ (l : List ℕ). l ++ lists_bytes b.link q.taken) p.whole
+      ∙ ap (λ (n : ℕ). unwritten a ++ lists_bytes n q.taken) p.link);
   number = q.number ∙ p.number;
   link = q.link ∙ p.link;
   is_taken = q.is_taken ∙ ap (λ (v : Bool). v || not (length q.taken == 0)) p.is_taken;
-  is_closing = q.is_closing ∙ (ap (λ (v : Bool). v || do_close b.link q.taken) p.is_closing ∙ ap (λ (n : ℕ). a.is_closing || do_close n q.taken) p.link);
+  is_closing = q.is_closing ∙ (ap (λ (v : Bool). v || do_close b.link q.taken) p.is_closing
+      ∙ ap (λ (n : ℕ). a.is_closing || do_close n q.taken) p.link);
   limit = q.limit ∙ p.limit;
   stops = λ earlier later e closed. q.stops earlier later e
-      (ap (λ (v : Bool). v || do_close b.link earlier) p.is_closing ∙ (ap (λ (n : ℕ). a.is_closing || do_close n earlier) p.link ∙ closed));
+      (ap (λ (v : Bool). v || do_close b.link earlier) p.is_closing
+      ∙ (ap (λ (n : ℕ). a.is_closing || do_close n earlier) p.link ∙ closed));
 }
 
 pub refills_joined : (a b c : WriterState) (x y : List (List LinkOut)) → Refills a b x y → Joins b c → Refills a c x y
@@ -97,7 +103,8 @@ refills_joined a b c x y p q = record {
 }
 
 -- what stands in front of something of a list with one more is a part of the list
-snoc_part : (xs : List (List LinkOut)) (x : List LinkOut) (earlier : List (List LinkOut)) (y : List LinkOut) (later : List (List LinkOut))
+snoc_part : (xs : List (List LinkOut)) (x : List LinkOut) (earlier : List (List LinkOut)) (y : List LinkOut)
+    (later : List (List LinkOut))
     → xs ++ x ∷ [] ≡ earlier ++ y ∷ later → (more : List (List LinkOut)) × (xs ≡ earlier ++ more)
 snoc_part xs x [] y later e = (xs, refl)
 snoc_part [] x (z ∷ earlier) y later e = absurd (no_more earlier (tails e))
@@ -118,14 +125,17 @@ snoc_part (w ∷ xs) x (z ∷ earlier) y later e =
     both h t = cc
 
 -- lists that don't close the link, and one more
-open_more : (closing : Bool) (link : ℕ) (xs : List (List LinkOut)) (x : List LinkOut) → (closing || do_close link xs) ≡ false
-    → (earlier later : List (List LinkOut)) → xs ++ x ∷ [] ≡ earlier ++ later → (closing || do_close link earlier) ≡ true → later ≡ []
+open_more : (closing : Bool) (link : ℕ) (xs : List (List LinkOut)) (x : List LinkOut)
+    → (closing || do_close link xs) ≡ false
+    → (earlier later : List (List LinkOut)) → xs ++ x ∷ [] ≡ earlier ++ later
+    → (closing || do_close link earlier) ≡ true → later ≡ []
 open_more closing link xs x free earlier [] e closed = refl
 open_more closing link xs x free earlier (y ∷ later) e closed =
     let part = snoc_part xs x earlier y later e in
     let all : (closing || (do_close link earlier || do_close link part.0)) ≡ false =
     ap (λ (b : Bool). closing || b) (sym (ap (do_close link) part.1 ∙ close_append link earlier part.0)) ∙ free in
-    let wrong : true ≡ false = sym (ap (λ (b : Bool). b || do_close link part.0) closed) ∙ (or_assoc closing (do_close link earlier) (do_close link part.0) ∙ all) in
+    let wrong : true ≡ false = sym (ap (λ (b : Bool). b || do_close link part.0) closed)
+    ∙ (or_assoc closing (do_close link earlier) (do_close link part.0) ∙ all) in
     cc
 
 taken_more : (a : Bool) (xs : List (List LinkOut)) (x : List LinkOut) → true ≡ (a || not (length (xs ++ x ∷ []) == 0))
@@ -133,44 +143,55 @@ taken_more a xs x =
     let some : (length (xs ++ x ∷ []) == 0) ≡ false = grind (arith, nat_tests, length-append xs (x ∷ [])) in
     sym (ap (λ (b : Bool). a || not b) some ∙ or_true a)
 
-pub refills_more : (a b c : WriterState) (x y z : List (List LinkOut)) → Refills a b x y → b.held ≡ [] → b.is_closing ≡ false → TakesList true b c y z
+pub refills_more : (a b c : WriterState) (x y z : List (List LinkOut)) → Refills a b x y → b.held ≡ []
+    → b.is_closing ≡ false → TakesList true b c y z
     → Refills a c x z
 refills_more a b c x y z p none free (outs, takes, is) =
     let told : unwritten c ≡ unwritten b ++ link_bytes a.link outs =
-    ap unwritten is ∙ (ap (λ (n : ℕ). b.bytes ++ link_bytes n outs) p.link ∙ ap (λ (l : List ℕ). l ++ link_bytes a.link outs)
+    ap unwritten is ∙ (ap (λ (n : ℕ). b.bytes ++ link_bytes n outs) p.link
+    ∙ ap (λ (l : List ℕ). l ++ link_bytes a.link outs)
     (sym (ap (λ (h : List LinkOut). b.bytes ++ link_bytes b.link h) none ∙ append-nil b.bytes))) in
     record {
       taken = p.taken ++ outs ∷ [];
       takes = takes ∙ (ap (λ (l : List (List LinkOut)). l ++ outs ∷ []) p.takes ∙ append_assoc x p.taken (outs ∷ []));
-      whole = told ∙ (ap (λ (l : List ℕ). l ++ link_bytes a.link outs) p.whole ∙ (append_assoc (unwritten a) (lists_bytes a.link p.taken) (link_bytes a.link outs)
-          ∙ ap (λ (l : List ℕ). unwritten a ++ l) (ap (λ (l : List ℕ). lists_bytes a.link p.taken ++ l) (sym (append-nil (link_bytes a.link outs)))
+      whole = told ∙ (ap (λ (l : List ℕ). l ++ link_bytes a.link outs) p.whole
+          ∙ (append_assoc (unwritten a) (lists_bytes a.link p.taken) (link_bytes a.link outs)
+          ∙ ap (λ (l : List ℕ). unwritten a ++ l) (ap (λ (l : List ℕ). lists_bytes a.link p.taken ++ l)
+          (sym (append-nil (link_bytes a.link outs)))
           ∙ sym (lists_append a.link p.taken (outs ∷ [])))));
       number = ap (λ (w : WriterState). w.number) is ∙ p.number;
       link = ap (λ (w : WriterState). w.link) is ∙ p.link;
       is_taken = ap (λ (w : WriterState). w.is_taken) is ∙ taken_more a.is_taken p.taken outs;
-      is_closing = ap (λ (w : WriterState). w.is_closing) is ∙ (ap (λ (v : Bool). v || is_link_closed (Some b.link) outs) p.is_closing
+      is_closing = ap (λ (w : WriterState). w.is_closing) is
+          ∙ (ap (λ (v : Bool). v || is_link_closed (Some b.link) outs) p.is_closing
           ∙ (ap (λ (n : ℕ). (a.is_closing || do_close a.link p.taken) || is_link_closed (Some n) outs) p.link
           ∙ (or_assoc a.is_closing (do_close a.link p.taken) (is_link_closed (Some a.link) outs)
-          ∙ ap (λ (v : Bool). a.is_closing || v) (ap (λ (v : Bool). do_close a.link p.taken || v) (sym (or_false (is_link_closed (Some a.link) outs)))
+          ∙ ap (λ (v : Bool). a.is_closing || v) (ap (λ (v : Bool). do_close a.link p.taken || v)
+          (sym (or_false (is_link_closed (Some a.link) outs)))
           ∙ sym (close_append a.link p.taken (outs ∷ []))))));
       limit = ap (λ (w : WriterState). w.limit) is ∙ p.limit;
       stops = open_more a.is_closing a.link p.taken outs (sym p.is_closing ∙ free);
     }
 
-pub refills_nothing : (a b c : WriterState) (x y z : List (List LinkOut)) → Refills a b x y → TakesList false b c y z → Refills a c x z
+pub refills_nothing : (a b c : WriterState) (x y z : List (List LinkOut)) → Refills a b x y → TakesList false b c y z
+    → Refills a c x z
 refills_nothing a b c x y z p (is, takes) =
-    subst (λ (w : WriterState). Refills a w x z) (sym is) (subst (λ (t : List (List LinkOut)). Refills a b x t) (sym takes) p)
+    subst (λ (w : WriterState). Refills a w x z) (sym is)
+    (subst (λ (t : List (List LinkOut)). Refills a b x t) (sym takes) p)
 
 -- a list more, where nothing closes the link
-pub refills_next : (a b c d : WriterState) (x y z : List (List LinkOut)) → Refills a b x y → b.held ≡ [] → (b.is_closing ≡ true → ⊥) → TakesList true b c y z
+pub refills_next : (a b c d : WriterState) (x y z : List (List LinkOut)) → Refills a b x y → b.held ≡ []
+    → (b.is_closing ≡ true → ⊥) → TakesList true b c y z
     → Joins c d → Refills a d x z
-refills_next a b c d x y z p none free takes joins = refills_joined a c d x z (refills_more a b c x y z p none (is_open b.is_closing free) takes) joins
+refills_next a b c d x y z p none free takes joins =
+    refills_joined a c d x z (refills_more a b c x y z p none (is_open b.is_closing free) takes) joins
   where
     is_open : (v : Bool) → (v ≡ true → ⊥) → v ≡ false
     is_open true h = absurd (h refl)
     is_open false h = refl
 
-pub writes_refused : (a b : WriterState) (x y : List (List LinkOut)) (s : Option (List ℕ)) → Refills a b x y → Writes (Err NoMemory) a b x y s s
+pub writes_refused : (a b : WriterState) (x y : List (List LinkOut)) (s : Option (List ℕ)) → Refills a b x y
+    → Writes (Err NoMemory) a b x y s s
 writes_refused a b x y s p = record {
   taken = p.taken;
   written = [];
@@ -187,7 +208,8 @@ writes_refused a b x y s p = record {
 pub all_joined : (b : WriterState) → b.held ≡ [] → unwritten b ≡ b.bytes
 all_joined b none = ap (λ (h : List LinkOut). b.bytes ++ link_bytes b.link h) none ∙ append-nil b.bytes
 
-pub writes_err : (a b : WriterState) (x y : List (List LinkOut)) (s t : Option (List ℕ)) (fault : LinkFault) → Refills a b x y → b.held ≡ []
+pub writes_err : (a b : WriterState) (x y : List (List LinkOut)) (s t : Option (List ℕ)) (fault : LinkFault)
+    → Refills a b x y → b.held ≡ []
     → Sends {A = Unit {0}} (Err fault) b.bytes s t → Writes (Err fault) a b x y s t
 writes_err a b x y s t WriteFailed p none (rest, sent, some) = record {
   taken = p.taken;
@@ -206,7 +228,8 @@ writes_err a b x y s t Malformed p none sent = absurd sent
 writes_err a b x y s t StepLimit p none sent = absurd sent
 writes_err a b x y s t NoMemory p none sent = absurd sent
 
-pub writes_all : (a b c : WriterState) (x y : List (List LinkOut)) (s t : Option (List ℕ)) (w : Wrote) → Refills a b x y → b.held ≡ []
+pub writes_all : (a b c : WriterState) (x y : List (List LinkOut)) (s t : Option (List ℕ)) (w : Wrote) → Refills a b x y
+    → b.held ≡ []
     → Appends s t b.bytes → w ≡ record { bytes = length b.bytes; taken = b.is_taken; closed = b.is_closing }
     → c ≡ record b { bytes = []; is_taken = false; is_closing = false } → Writes (Ok w) a c x y s t
 writes_all a b c x y s t w p none sent says left = record {
@@ -231,7 +254,8 @@ writes_all a b c x y s t w p none sent says left = record {
 }
 
 -- the limit is another matter
-pub writes_limited : (answer : Result Wrote LinkFault) (a b : WriterState) (l m : Limit) (x y : List (List LinkOut)) (s t : Option (List ℕ))
+pub writes_limited : (answer : Result Wrote LinkFault) (a b : WriterState) (l m : Limit) (x y : List (List LinkOut))
+    (s t : Option (List ℕ))
     → Writes answer (record a { limit = l }) b x y s t → Writes answer a (record b { limit = m }) x y s t
 writes_limited answer a b l m x y s t p = record {
   taken = p.taken;
@@ -247,8 +271,10 @@ writes_limited answer a b l m x y s t p = record {
 }
   where
     same_tells : (r : Result Wrote LinkFault)
-        → Tells r (p.written ++ p.rest) (a.is_taken || not (length p.taken == 0)) (a.is_closing || do_close a.link p.taken) p.written p.rest b
-        → Tells r (p.written ++ p.rest) (a.is_taken || not (length p.taken == 0)) (a.is_closing || do_close a.link p.taken) p.written p.rest (record b { limit = m })
+        → Tells r (p.written ++ p.rest) (a.is_taken || not (length p.taken == 0))
+        (a.is_closing || do_close a.link p.taken) p.written p.rest b
+        → Tells r (p.written ++ p.rest) (a.is_taken || not (length p.taken == 0))
+        (a.is_closing || do_close a.link p.taken) p.written p.rest (record b { limit = m })
     same_tells (Ok w) h = h
     same_tells (Err WriteFailed) h = h
     same_tells (Err NoMemory) h = h

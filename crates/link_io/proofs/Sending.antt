@@ -1,5 +1,6 @@
 -- Bytes that go out in several writes.
-use Rattle.std.proofs.Common.{◌≡◌, ℕ, ◌++◌, List, [], take, drop, Option, refl, sym, ◌∙◌, ap, append_assoc, take-append-drop}
+use Rattle.std.proofs.Common.{◌≡◌, ℕ, ◌++◌, List, [], take, drop, Option, refl, sym, ◌∙◌, ap, append_assoc}
+use Rattle.std.proofs.Common.{take-append-drop}
 use Rattle.std.specs.Io.KnownBytes.{Appends}
 use Rattle.std.proofs.KnownBytes.{Appends-nil, Appends-trans}
 use Rattle.link_io.specs.Writing.{HasSent}
@@ -7,11 +8,13 @@ use Rattle.link_io.specs.Writing.{HasSent}
 pub sent_none : (bytes : List ℕ) (s : Option (List ℕ)) → HasSent bytes bytes s s
 sent_none bytes s = ([], Appends-nil s, refl)
 
-pub sent_more : (n : ℕ) (bytes rest left : List ℕ) (a b c : Option (List ℕ)) → HasSent bytes rest a b → Appends b c (take n rest)
+pub sent_more : (n : ℕ) (bytes rest left : List ℕ) (a b c : Option (List ℕ)) → HasSent bytes rest a b
+    → Appends b c (take n rest)
     → left ≡ drop n rest → HasSent bytes left a c
 sent_more n bytes rest left a b c (written, so_far, whole) more behind = (
   written ++ take n rest,
   Appends-trans a b c written (take n rest) so_far more,
-  whole ∙ (ap (λ (l : List ℕ). written ++ l) (sym (take-append-drop n rest)) ∙ (sym (append_assoc written (take n rest) (drop n rest))
+  whole ∙ (ap (λ (l : List ℕ). written ++ l) (sym (take-append-drop n rest))
+      ∙ (sym (append_assoc written (take n rest) (drop n rest))
       ∙ ap (λ (l : List ℕ). (written ++ take n rest) ++ l) (sym behind))),
 )

@@ -29,13 +29,17 @@ of entered replacements u executed cancelled value trades has_traded = record {
   unfilled_set = u.1;
 }
 
-same-parts : (e e' : EnterOrder) (r r' : List Replace) (u u' : (k : ℕ) × Fit k) (x x' c c' v v' : ℕ) (t t' : List Trade) (h h' : Bool)
-    → e ≡ e' → r ≡ r' → u ≡ u' → x ≡ x' → c ≡ c' → v ≡ v' → t ≡ t' → h ≡ h' → of e r u x c v t h ≡ of e' r' u' x' c' v' t' h'
+same-parts : (e e' : EnterOrder) (r r' : List Replace) (u u' : (k : ℕ) × Fit k) (x x' c c' v v' : ℕ) (t t' : List Trade)
+    (h h' : Bool)
+    → e ≡ e' → r ≡ r' → u ≡ u' → x ≡ x' → c ≡ c' → v ≡ v' → t ≡ t' → h ≡ h'
+    → of e r u x c v t h ≡ of e' r' u' x' c' v' t' h'
 same-parts e e' r r' u u' x x' c c' v v' t t' h h' he hr hu hx hc hv ht hh = rw (he, hr, hu, hx, hc, hv, ht, hh) refl
 
 pub same-order : (a b : BookOrder) → a.entered ≡ b.entered → a.replacements ≡ b.replacements → a.unfilled ≡ b.unfilled
-    → a.executed ≡ b.executed → a.cancelled ≡ b.cancelled → a.value ≡ b.value → a.trades ≡ b.trades → a.has_traded ≡ b.has_traded → a ≡ b
+    → a.executed ≡ b.executed → a.cancelled ≡ b.cancelled → a.value ≡ b.value → a.trades ≡ b.trades
+    → a.has_traded ≡ b.has_traded → a ≡ b
 same-order a b e r u x c v t h =
-    same-parts a.entered b.entered a.replacements b.replacements (a.unfilled, a.unfilled_set) (b.unfilled, b.unfilled_set)
+    same-parts a.entered b.entered a.replacements b.replacements (a.unfilled, a.unfilled_set)
+    (b.unfilled, b.unfilled_set)
     a.executed b.executed a.cancelled b.cancelled a.value b.value a.trades b.trades a.has_traded b.has_traded
     e r (same-fit a.unfilled b.unfilled a.unfilled_set b.unfilled_set u) x c v t h

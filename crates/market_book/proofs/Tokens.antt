@@ -15,7 +15,8 @@ or-or : (a b c : Bool) → (a || (b || c)) ≡ ((a || b) || c)
 or-or true b c = refl
 or-or false b c = refl
 
-pub had-any : (token : List ℕ) (order : EnterOrder) (rs : List Replace) → list_any (bytes_eq token) (tokens_by order rs) ≡ (list_any (asks_for token) rs || bytes_eq token order.token)
+pub had-any : (token : List ℕ) (order : EnterOrder) (rs : List Replace)
+    → list_any (bytes_eq token) (tokens_by order rs) ≡ (list_any (asks_for token) rs || bytes_eq token order.token)
 had-any token order [] = or-false (bytes_eq token order.token)
 had-any token order (r ∷ rs) =
     ap (λ (b : Bool). asks_for token r || b) (had-any token order rs)

@@ -29,7 +29,8 @@ use Rattle.market_law.specs.Machine.{Machine, BookOrder, Step, is_token_used, ch
 use Rattle.market_law.specs.Machine.{unopened, taken_off, moved, has_trade, broken_off, without, accept, reject_token}
 use Rattle.market_law.specs.Machine.{move, ToEnter, Takes, Rejects, to_enter, ToReplace, Replaces, TakesOff, Keeps}
 use Rattle.market_law.specs.Machine.{to_replace, ToCancel, Cancels, Waits, Denies, to_cancel, enter, replace}
-use Rattle.market_law.specs.Machine.{replace_on, cancel, cancel_on, live_order, live_of, inbound, act, is_open_for, may_trade, minimum_of}
+use Rattle.market_law.specs.Machine.{replace_on, cancel, cancel_on, live_order, live_of, inbound, act, is_open_for}
+use Rattle.market_law.specs.Machine.{may_trade, minimum_of}
 use Rattle.market_law.specs.Machine.{trade_by, trade_on, take_off_on, break_on, says_nothing, saying, is_live_as}
 use Rattle.market_law.specs.Machine.{traded_in_book}
 use Rattle.market_law.specs.Run.{life_in_book, Move, Comes, Acts, moves, ran}
@@ -41,7 +42,8 @@ use Rattle.market_law.proofs.Books.{is-open, is-first, is-in, live-chain, open-l
 use Rattle.market_law.proofs.Runs.{ran-Sound, free-token}
 
 -- what holds of each chain holds of each where one becomes another
-pub each-change : (P : BookOrder → Type 0) (p : BookOrder → Bool) (f : BookOrder → BookOrder) (cs : List BookOrder) → ((c : BookOrder) → P c → P (f c)) → Each P cs → Each P (change p f cs)
+pub each-change : (P : BookOrder → Type 0) (p : BookOrder → Bool) (f : BookOrder → BookOrder) (cs : List BookOrder)
+    → ((c : BookOrder) → P c → P (f c)) → Each P cs → Each P (change p f cs)
 each-change P p f [] g e = tt
 each-change P p f (c ∷ cs) g e = by_test (p c) (each-change P p f cs g e.1)
   where
@@ -50,19 +52,23 @@ each-change P p f (c ∷ cs) g e = by_test (p c) (each-change P p f cs g e.1)
     by_test false rest = (e.0, rest)
 
 -- and where the first that passes becomes another, which holds of it
-pub each-first : (P : BookOrder → Type 0) (p : BookOrder → Bool) (f : BookOrder → BookOrder) (cs : List BookOrder) (c : BookOrder) → find p cs ≡ Some c → P (f c) → Each P cs → Each P (change p f cs)
+pub each-first : (P : BookOrder → Type 0) (p : BookOrder → Bool) (f : BookOrder → BookOrder) (cs : List BookOrder)
+    (c : BookOrder) → find p cs ≡ Some c → P (f c) → Each P cs → Each P (change p f cs)
 each-first P p f [] c e k each = absurd (cc)
 each-first P p f (x ∷ xs) c e k each = by_test (p x) e (λ h. each-first P p f xs c h k each.1)
   where
-    by_test : (b : Bool) → (if b then Some x else find p xs) ≡ Some c → (find p xs ≡ Some c → Each P (change p f xs)) → Each P (if b then f x ∷ xs else x ∷ change p f xs)
+    by_test : (b : Bool) → (if b then Some x else find p xs) ≡ Some c → (find p xs ≡ Some c → Each P (change p f xs))
+        → Each P (if b then f x ∷ xs else x ∷ change p f xs)
     by_test true h later = let is : x ≡ c = cc in (subst (λ y. P (f y)) (sym is) k, each.1)
     by_test false h later = (each.0, later h)
 
-pub found-passes : {A : Type 0} (P : A → Type 0) (p : A → Bool) (xs : List A) (x : A) → find p xs ≡ Some x → Each P xs → P x × (p x ≡ true)
+pub found-passes : {A : Type 0} (P : A → Type 0) (p : A → Bool) (xs : List A) (x : A) → find p xs ≡ Some x → Each P xs
+    → P x × (p x ≡ true)
 found-passes P p [] x e each = absurd (cc)
 found-passes {A = A} P p (y ∷ ys) x e each = by_test (p y) refl e (λ f. found-passes P p ys x f each.1)
   where
-    by_test : (b : Bool) → p y ≡ b → (if b then Some y else find p ys) ≡ Some x → (find p ys ≡ Some x → P x × (p x ≡ true)) → P x × (p x ≡ true)
+    by_test : (b : Bool) → p y ≡ b → (if b then Some y else find p ys) ≡ Some x
+        → (find p ys ≡ Some x → P x × (p x ≡ true)) → P x × (p x ≡ true)
     by_test true is found later = let same : y ≡ x = cc in subst (λ z. P z × (p z ≡ true)) same (each.0, is)
     by_test false is found later = later found
 
@@ -109,19 +115,22 @@ module _ (root_of : List ℕ → Option (List ℕ)) (P : Inbound → Type 0) whe
       leads-live = place.leads (live_of c).bytes (live-in c)
 
       works-t : (side : ℕ) → works_as (life c.entered.token side said) t ≡ true
-      works-t side = rw (chain.book side, is-first m said t c at s) (ap is_working (open-lived side c (is-open m said t c at s)))
+      works-t side = rw (chain.book side, is-first m said t c at s)
+          (ap is_working (open-lived side c (is-open m said t c at s)))
 
       works : (side : ℕ) → works_as (life c.entered.token side said) (live_of c).bytes ≡ true
       works side = rw (chain.book side, live-is c) (ap is_working (open-lived side c (is-open m said t c at s)))
 
       -- it works, and what the machine tests of the chain
-      on-order : (test : Life → Bool) → ((side : ℕ) → test (life_in_book side c) ≡ true) → OnOrder root_of P (live_of c).bytes (λ l. works_as l (live_of c).bytes && test l) said
+      on-order : (test : Life → Bool) → ((side : ℕ) → test (life_in_book side c) ≡ true)
+          → OnOrder root_of P (live_of c).bytes (λ l. works_as l (live_of c).bytes && test l) said
       on-order test e = (c.entered.token, leads-live, λ side. rw (works side) (rw (chain.book side) (e side)))
 
       working : OnOrder root_of P (live_of c).bytes (λ l. works_as l (live_of c).bytes) said
       working = (c.entered.token, leads-live, works)
 
-      off-told : (q : ℕ) (fit : q < 2 ^ 32) → is_open_for q c ≡ true → IsTold (with_live_order t (taken_off q) m) (canceled (live_of c) q fit ∷ said)
+      off-told : (q : ℕ) (fit : q < 2 ^ 32) → is_open_for q c ≡ true
+          → IsTold (with_live_order t (taken_off q) m) (canceled (live_of c) q fit ∷ said)
       off-told q fit may = record {
         placed = each-change IsPlaced (is_live_as t) (taken_off q) m.book (off-placed q) T.placed;
         named = T.named;
@@ -132,11 +141,21 @@ module _ (root_of : List ℕ → Option (List ℕ)) (P : Inbound → Type 0) whe
       all-may = let o = is-open m said t c at s in grind (arith, nat_tests)
 
       traded-told : (x : Trading) (fit : suc m.matches < 2 ^ 64) → is_open_for x.shares c ≡ true
-          → IsTold (record m { matches = suc m.matches; book = change (is_live_as t) (traded_in_book (suc m.matches) x) m.book }) (executed (live_of c) x (suc m.matches) fit ∷ said)
+          → IsTold (record m {
+            matches = suc m.matches;
+            book =
+                change (is_live_as t) (traded_in_book (suc m.matches) x) m.book;
+          })
+          (executed (live_of c) x (suc m.matches) fit ∷ said)
       traded-told x fit may = record {
-        placed = each-change IsPlaced (is_live_as t) (traded_in_book (suc m.matches) x) m.book (traded-placed (suc m.matches) x) T.placed;
+        placed = each-change IsPlaced (is_live_as t) (traded_in_book (suc m.matches) x) m.book
+            (traded-placed (suc m.matches) x) T.placed;
         named = T.named;
-        each = (on-order (λ l. life_may_leave x.shares l && is_new_match (suc m.matches) l) (λ side. rw (may, fresh_match) refl), T.each);
+        each = (
+          on-order (λ l. life_may_leave x.shares l && is_new_match (suc m.matches) l)
+              (λ side. rw (may, fresh_match) refl),
+          T.each,
+        );
       }
         where
           other : (i : ℕ) → nat_le i m.matches ≡ true → (i == suc m.matches) ≡ false
@@ -144,7 +163,8 @@ module _ (root_of : List ℕ → Option (List ℕ)) (P : Inbound → Type 0) whe
 
           fresh_match : list_any (λ (y : Trade). y.match_number == suc m.matches) c.trades ≡ false
           fresh_match = any-each (λ (y : Trade). y.match_number == suc m.matches) c.trades
-              (each-all (λ (y : Trade). is_match m y.match_number ≡ true) (λ (y : Trade). (y.match_number == suc m.matches) ≡ false) c.trades
+              (each-all (λ (y : Trade). is_match m y.match_number ≡ true)
+              (λ (y : Trade). (y.match_number == suc m.matches) ≡ false) c.trades
               (λ y e. other y.match_number e) chain.matched)
 
     -- ---- a replace of a live chain
@@ -163,7 +183,8 @@ module _ (root_of : List ℕ → Option (List ℕ)) (P : Inbound → Type 0) whe
         unnamed = sym (T.named r.replacement_token) ∙ unused;
       }
 
-      moved-told : (left : ℕ) (most : left ≤ 999_999) (state : OrderState) → r.shares - c.executed ≡ left → Keeping (move m r c state left most)
+      moved-told : (left : ℕ) (most : left ≤ 999_999) (state : OrderState) → r.shares - c.executed ≡ left
+          → Keeping (move m r c state left most)
       unfolding replace-told
       moved-told zero most state is = off-told r.token c at c.unfilled c.unfilled_set (all-may r.token c at)
       moved-told (suc left) most state is = record {
@@ -185,7 +206,8 @@ module _ (root_of : List ℕ → Option (List ℕ)) (P : Inbound → Type 0) whe
           }
 
           lead : (u : List ℕ) → (bytes_eq u r.replacement_token || holds u c) ≡ true → root_of u ≡ Some c.entered.token
-          lead u h = ⊎_elim (λ x. rw (eq-is u r.replacement_token x) (same ∙ leads-t r.token c at)) (λ x. (place r.token c at).leads u x) (or-case (bytes_eq u r.replacement_token) (holds u c) h)
+          lead u h = ⊎_elim (λ x. rw (eq-is u r.replacement_token x) (same ∙ leads-t r.token c at))
+              (λ x. (place r.token c at).leads u x) (or-case (bytes_eq u r.replacement_token) (holds u c) h)
 
           moved-placed : (b : OrderState) → IsPlaced (moved r (suc left) (shares-fit (suc left) most) b c)
           moved-placed Live = record { leads = lead; was_entered = (place r.token c at).was_entered }
@@ -194,23 +216,30 @@ module _ (root_of : List ℕ → Option (List ℕ)) (P : Inbound → Type 0) whe
           f : BookOrder → BookOrder
           f = moved r (suc left) (shares-fit (suc left) most) state
 
-          by_place : (p : BookOrder → Bool) (cs : List BookOrder) → find p cs ≡ Some c → Each IsPlaced cs → Each IsPlaced (change p f cs)
+          by_place : (p : BookOrder → Bool) (cs : List BookOrder) → find p cs ≡ Some c → Each IsPlaced cs
+              → Each IsPlaced (change p f cs)
           by_place p [] e each = absurd (cc)
           by_place p (x ∷ xs) e each = by_test (p x) e (λ f. by_place p xs f each.1)
             where
-              by_test : (b : Bool) → (if b then Some x else find p xs) ≡ Some c → (find p xs ≡ Some c → Each IsPlaced (change p f xs)) → Each IsPlaced (if b then f x ∷ xs else x ∷ change p f xs)
-              by_test true found later = let is : x ≡ c = cc in (subst (λ y. IsPlaced (f y)) (sym is) (moved-placed state), each.1)
+              by_test : (b : Bool) → (if b then Some x else find p xs) ≡ Some c
+                  → (find p xs ≡ Some c → Each IsPlaced (change p f xs))
+                  → Each IsPlaced (if b then f x ∷ xs else x ∷ change p f xs)
+              by_test true found later = let is : x ≡ c = cc in
+                  (subst (λ y. IsPlaced (f y)) (sym is) (moved-placed state), each.1)
               by_test false found later = (each.0, later found)
 
     -- ---- moves
 
-    rejected-told : (token : Token) (reason : Letter) → is_token_used m token.bytes ≡ false → IsSaid root_of P (rejected token reason) said → Keeping (reject_token m token reason)
-    rejected-told token reason unused is = record { placed = T.placed; named = λ u. ap (λ b. bytes_eq u token.bytes || b) (T.named u); each = (is, T.each) }
+    rejected-told : (token : Token) (reason : Letter) → is_token_used m token.bytes ≡ false
+        → IsSaid root_of P (rejected token reason) said → Keeping (reject_token m token reason)
+    rejected-told token reason unused is = record
+        { placed = T.placed; named = λ u. ap (λ b. bytes_eq u token.bytes || b) (T.named u); each = (is, T.each) }
 
     born-told : (t : List ℕ) → is_token_used m t ≡ false → (side : ℕ) → life t side said ≡ born t side
     born-told t unused side = s.outside t (free-token m said t unused s) side ∙ ap (λ b. vacant b t side) unused
 
-    accepted-told : (order : EnterOrder) (state : OrderState) → root_of order.token ≡ Some order.token → P (asked.Enter order) → is_token_used m order.token ≡ false → Keeping (accept m order state)
+    accepted-told : (order : EnterOrder) (state : OrderState) → root_of order.token ≡ Some order.token
+        → P (asked.Enter order) → is_token_used m order.token ≡ false → Keeping (accept m order state)
     accepted-told order state leads was unused = record {
       placed = (new state, T.placed);
       named = λ u. ap (λ b. bytes_eq u order.token || b) (T.named u);
@@ -218,33 +247,51 @@ module _ (root_of : List ℕ → Option (List ℕ)) (P : Inbound → Type 0) whe
     }
       where
         own : (u : List ℕ) → (bytes_eq u order.token || false) ≡ true → root_of u ≡ Some order.token
-        own u h = ⊎_elim (λ x. rw (eq-is u order.token x) leads) (λ x. absurd (cc)) (or-case (bytes_eq u order.token) false h)
+        own u h = ⊎_elim (λ x. rw (eq-is u order.token x) leads) (λ x. absurd (cc))
+            (or-case (bytes_eq u order.token) false h)
 
-        new : (b : OrderState) → IsPlaced (opened_in_book order.shares (shares-fit order.shares order.shares_set.1) b (unopened order))
+        new : (b : OrderState) → IsPlaced (opened_in_book order.shares (shares-fit order.shares order.shares_set.1) b
+            (unopened order))
         new Live = record { leads = own; was_entered = was }
         new Dead = record { leads = own; was_entered = was }
 
-    entered : (order : EnterOrder) → root_of order.token ≡ Some order.token → P (asked.Enter order) → is_token_used m order.token ≡ false → (answer : ToEnter) → Keeping (enter m order answer)
+    entered : (order : EnterOrder) → root_of order.token ≡ Some order.token → P (asked.Enter order)
+        → is_token_used m order.token ≡ false → (answer : ToEnter) → Keeping (enter m order answer)
     entered order leads was n (Takes state) = accepted-told order state leads was n
-    entered order leads was n (Rejects reason) = rejected-told (entered_token order) reason n (inl (leads, born-told order.token n, sym (T.named order.token) ∙ n))
+    entered order leads was n (Rejects reason) =
+        rejected-told (entered_token order) reason n
+        (inl (leads, born-told order.token n, sym (T.named order.token) ∙ n))
 
-    replaced : (r : Replace) → root_of r.replacement_token ≡ root_of r.token → P (asked.Replace r) → (c : BookOrder) → live_order m r.token ≡ Some c → is_token_used m r.replacement_token ≡ false → (answer : ToReplace) → Keeping (replace m r c answer)
-    replaced r same was c at n (Replaces state) = moved-told r same was c at n (r.shares - c.executed) (less-than-most r.shares c.executed r.shares_set.1) state refl
+    replaced : (r : Replace) → root_of r.replacement_token ≡ root_of r.token → P (asked.Replace r) → (c : BookOrder)
+        → live_order m r.token ≡ Some c → is_token_used m r.replacement_token ≡ false → (answer : ToReplace)
+        → Keeping (replace m r c answer)
+    replaced r same was c at n (Replaces state) =
+        moved-told r same was c at n (r.shares - c.executed)
+        (less-than-most r.shares c.executed r.shares_set.1) state refl
     replaced r same was c at n TakesOff = off-told r.token c at c.unfilled c.unfilled_set (all-may r.token c at)
-    replaced r same was c at n (Keeps reason) = rejected-told (to_token r) reason n (inr (r.token, replace-told r same was c at n))
+    replaced r same was c at n (Keeps reason) =
+        rejected-told (to_token r) reason n (inr (r.token, replace-told r same was c at n))
 
     neutral-told : (a : Outbound) → IsSaid root_of P a said → ((t : List ℕ) → names t a ≡ false) → Keeping (saying m a)
-    neutral-told a is none = record { placed = T.placed; named = λ u. T.named u ∙ rw (none u) refl; each = (is, T.each) }
+    neutral-told a is none = record {
+      placed = T.placed;
+      named = λ u. T.named u ∙ rw (none u) refl;
+      each =
+          (is, T.each);
+    }
 
-    cancelled : (t : List ℕ) (c : BookOrder) → live_order m t ≡ Some c → (answer : ToCancel) → Keeping (cancel m t c answer)
+    cancelled : (t : List ℕ) (c : BookOrder) → live_order m t ≡ Some c → (answer : ToCancel)
+        → Keeping (cancel m t c answer)
     cancelled t c e Cancels = off-told t c e c.unfilled c.unfilled_set (all-may t c e)
     cancelled t c e Waits = neutral-told (cancel_pending (live_of c)) (working t c e) (λ u. refl)
     cancelled t c e Denies = neutral-told (cancel_reject (live_of c)) (working t c e) (λ u. refl)
 
-    answered-told : (i : Inbound) (choice : Choice) → (IsKnown root_of P) (Comes i choice) → Keeping (inbound m i choice)
+    answered-told : (i : Inbound) (choice : Choice) → (IsKnown root_of P) (Comes i choice)
+        → Keeping (inbound m i choice)
     answered-told (asked.Enter order) choice k = by_used (is_token_used m order.token) refl
       where
-        by_used : (b : Bool) → is_token_used m order.token ≡ b → Keeping (if b then says_nothing m else enter m order (to_enter choice))
+        by_used : (b : Bool) → is_token_used m order.token ≡ b
+            → Keeping (if b then says_nothing m else enter m order (to_enter choice))
         by_used true e = T
         by_used false e = entered order k.0 k.1 e (to_enter choice)
     answered-told (asked.Replace r) choice k = by_chain (live_order m r.token) refl
@@ -253,7 +300,8 @@ module _ (root_of : List ℕ → Option (List ℕ)) (P : Inbound → Type 0) whe
         by_chain None e = T
         by_chain (Some c) e = by_used (is_token_used m r.replacement_token) refl
           where
-            by_used : (b : Bool) → is_token_used m r.replacement_token ≡ b → Keeping (if b then says_nothing m else replace m r c (to_replace choice))
+            by_used : (b : Bool) → is_token_used m r.replacement_token ≡ b
+                → Keeping (if b then says_nothing m else replace m r c (to_replace choice))
             by_used true n = T
             by_used false n = replaced r k.0 k.1 c e n (to_replace choice)
     answered-told (asked.Cancel r) choice k = by_chain (live_order m r.token) refl
@@ -273,12 +321,15 @@ module _ (root_of : List ℕ → Option (List ℕ)) (P : Inbound → Type 0) whe
         by_chain None e = T
         by_chain (Some c) e = by_test (may_trade x.shares c) refl
           where
-            by_number : is_open_for x.shares c ≡ true → (b : Bool) (z : nat_lt (suc m.matches) (2 ^ 64) ≡ b) → Keeping (trade_by m x c b z)
+            by_number : is_open_for x.shares c ≡ true → (b : Bool) (z : nat_lt (suc m.matches) (2 ^ 64) ≡ b)
+                → Keeping (trade_by m x c b z)
             by_number may true z = traded-told x.token c e x (is-less (suc m.matches) (2 ^ 64) z) may
             by_number may false z = T
 
-            by_test : (b : Bool) → may_trade x.shares c ≡ b → Keeping (if b then trade_by m x c (nat_lt (suc m.matches) (2 ^ 64)) refl else says_nothing m)
-            by_test true z = by_number (and-parts (is_open_for x.shares c) (c.has_traded || nat_le (minimum_of c) x.shares) z).0 (nat_lt (suc m.matches) (2 ^ 64)) refl
+            by_test : (b : Bool) → may_trade x.shares c ≡ b
+                → Keeping (if b then trade_by m x c (nat_lt (suc m.matches) (2 ^ 64)) refl else says_nothing m)
+            by_test true z = by_number (and-parts (is_open_for x.shares c)
+                (c.has_traded || nat_le (minimum_of c) x.shares) z).0 (nat_lt (suc m.matches) (2 ^ 64)) refl
             by_test false z = T
     acted-told (choose.TakeOff x) = by_chain (live_order m x.token) refl
       where
@@ -286,19 +337,32 @@ module _ (root_of : List ℕ → Option (List ℕ)) (P : Inbound → Type 0) whe
         by_chain None e = T
         by_chain (Some c) e = by_test (is_open_for x.shares c) refl
           where
-            by_test : (b : Bool) → is_open_for x.shares c ≡ b → Keeping (if b then saying (with_live_order x.token (taken_off x.shares) m) (canceled (live_of c) x.shares x.shares_set) else says_nothing m)
+            by_test : (b : Bool) → is_open_for x.shares c ≡ b
+                → Keeping (if b then saying (with_live_order x.token (taken_off x.shares) m)
+                (canceled (live_of c) x.shares x.shares_set) else says_nothing m)
             by_test true z = off-told x.token c e x.shares x.shares_set z
             by_test false z = T
     acted-told (choose.Break x) = by_chain (find (has_trade x.match_number) m.book) refl
       where
-        by_chain : (found : Option BookOrder) → find (has_trade x.match_number) m.book ≡ found → Keeping (break_on m x found)
+        by_chain : (found : Option BookOrder) → find (has_trade x.match_number) m.book ≡ found
+            → Keeping (break_on m x found)
         by_chain None e = T
         by_chain (Some c) e =
-            let k = found-passes (λ d. IsPlaced d × IsChain m said d) (has_trade x.match_number) m.book c e (each-both IsPlaced (IsChain m said) m.book T.placed s.each) in
+            let k = found-passes (λ d. IsPlaced d × IsChain m said d) (has_trade x.match_number) m.book c e
+            (each-both IsPlaced (IsChain m said) m.book T.placed s.each) in
             record {
-              placed = each-change IsPlaced (has_trade x.match_number) (broken_off x.match_number) m.book (broken-placed x.match_number) T.placed;
+              placed = each-change IsPlaced (has_trade x.match_number) (broken_off x.match_number) m.book
+                  (broken-placed x.match_number) T.placed;
               named = T.named;
-              each = ((c.entered.token, k.0.0.leads (live_of c).bytes (live-in c), λ side. rw (k.0.1.book side, live-in c) k.1), T.each);
+              each = (
+                (
+                  c.entered.token,
+                  k.0.0.leads (live_of c).bytes (live-in c),
+                  λ side. rw
+                      (k.0.1.book side, live-in c) k.1,
+                ),
+                T.each,
+              );
             }
     acted-told (choose.SystemEvent event) = neutral-told (system_event event) tt (λ u. refl)
     acted-told choose.AcceptLive = T

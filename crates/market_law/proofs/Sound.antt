@@ -75,7 +75,8 @@ pub record IsChain (m : Machine) (said : List Outbound) (c : BookOrder) : Type 0
 pub record IsSound (m : Machine) (said : List Outbound) : Type 0 where
   pub each : Each (IsChain m said) m.book
   pub apart : AreApart m.book
-  pub outside : (t : List ℕ) → Each (λ c. holds t c ≡ false) m.book → (side : ℕ) → life t side said ≡ vacant (is_token_used m t) t side
+  pub outside : (t : List ℕ) → Each (λ c. holds t c ≡ false) m.book → (side : ℕ)
+      → life t side said ≡ vacant (is_token_used m t) t side
 
 -- ---- a message leaves the other orders as they are
 
@@ -91,18 +92,24 @@ IsAbout t (market.CancelPending m) = Unit {0}
 IsAbout t (market.CancelReject m) = Unit {0}
 IsAbout t market.Skipped = Unit {0}
 
-pub not-first : (ts : List (List ℕ)) (t : List ℕ) → ts ≢ [] → list_any (bytes_eq t) ts ≡ false → bytes_eq t (first_token ts) ≡ false
+pub not-first : (ts : List (List ℕ)) (t : List ℕ) → ts ≢ [] → list_any (bytes_eq t) ts ≡ false
+    → bytes_eq t (first_token ts) ≡ false
 not-first [] t filled e = absurd (filled refl)
 not-first (u ∷ us) t filled e = (or-false (bytes_eq t u) (list_any (bytes_eq t) us) e).0
 
 pub untouched : (l : Life) (a : Outbound) (t : List ℕ) → IsAbout t a → l.tokens ≢ [] → is_of l t ≡ false → after l a ≡ l
 untouched l (market.SystemEvent m) t e filled out = refl
-untouched l (market.Accepted m) t e filled out = let n : is_live l m.token ≡ false = rw e (not-first l.tokens t filled out) in rw n refl
-untouched l (market.Replaced m) t e filled out = let n : is_live l m.previous_token ≡ false = rw e (not-first l.tokens t filled out) in rw n refl
-untouched l (market.Canceled m) t e filled out = let n : is_live l m.token ≡ false = rw e (not-first l.tokens t filled out) in rw n refl
-untouched l (market.Executed m) t e filled out = let n : is_live l m.token ≡ false = rw e (not-first l.tokens t filled out) in rw n refl
+untouched l (market.Accepted m) t e filled out = let n : is_live l m.token ≡ false =
+    rw e (not-first l.tokens t filled out) in rw n refl
+untouched l (market.Replaced m) t e filled out = let n : is_live l m.previous_token ≡ false =
+    rw e (not-first l.tokens t filled out) in rw n refl
+untouched l (market.Canceled m) t e filled out = let n : is_live l m.token ≡ false =
+    rw e (not-first l.tokens t filled out) in rw n refl
+untouched l (market.Executed m) t e filled out = let n : is_live l m.token ≡ false =
+    rw e (not-first l.tokens t filled out) in rw n refl
 untouched l (market.Broken m) t e filled out = let n : is_of l m.token ≡ false = rw e out in rw n refl
-untouched l (market.Rejected m) t e filled out = let n : is_live l m.token ≡ false = rw e (not-first l.tokens t filled out) in rw n refl
+untouched l (market.Rejected m) t e filled out = let n : is_live l m.token ≡ false =
+    rw e (not-first l.tokens t filled out) in rw n refl
 untouched l (market.CancelPending m) t e filled out = refl
 untouched l (market.CancelReject m) t e filled out = refl
 untouched l market.Skipped t e filled out = refl
@@ -115,24 +122,32 @@ vacant-other : (b : Bool) (t u : List ℕ) (side : ℕ) → bytes_eq u t ≡ fal
 vacant-other true t u side e = rw e refl
 vacant-other false t u side e = rw e refl
 
-pub vacant-untouched : (b : Bool) (u : List ℕ) (side : ℕ) (a : Outbound) (t : List ℕ) → IsAbout t a → bytes_eq t u ≡ false → after (vacant b u side) a ≡ vacant b u side
-vacant-untouched b u side a t about e = untouched (vacant b u side) a t about (vacant-filled b u side) (vacant-other b u t side e)
+pub vacant-untouched : (b : Bool) (u : List ℕ) (side : ℕ) (a : Outbound) (t : List ℕ) → IsAbout t a
+    → bytes_eq t u ≡ false → after (vacant b u side) a ≡ vacant b u side
+vacant-untouched b u side a t about e = untouched (vacant b u side) a t about (vacant-filled b u side)
+    (vacant-other b u t side e)
 
 -- ---- chains before and behind one
 
-pub apart-before : (b : List BookOrder) (c : BookOrder) (d : List BookOrder) → AreApart (b ++ c ∷ d) → Each (IsApart c) b
+pub apart-before : (b : List BookOrder) (c : BookOrder) (d : List BookOrder) → AreApart (b ++ c ∷ d)
+    → Each (IsApart c) b
 apart-before [] c d e = tt
 apart-before (x ∷ xs) c d e = ((λ t h k. (each-parts (IsApart x) xs (c ∷ d) e.0).1.0 t k h), apart-before xs c d e.1)
 
-pub apart-behind : (b : List BookOrder) (c : BookOrder) (d : List BookOrder) → AreApart (b ++ c ∷ d) → Each (IsApart c) d
+pub apart-behind : (b : List BookOrder) (c : BookOrder) (d : List BookOrder) → AreApart (b ++ c ∷ d)
+    → Each (IsApart c) d
 apart-behind [] c d e = e.0
 apart-behind (x ∷ xs) c d e = apart-behind xs c d e.1
 
-pub apart-again : (b : List BookOrder) (c c' : BookOrder) (d : List BookOrder) → AreApart (b ++ c ∷ d) → Each (IsApart c') b → Each (IsApart c') d → AreApart (b ++ c' ∷ d)
+pub apart-again : (b : List BookOrder) (c c' : BookOrder) (d : List BookOrder) → AreApart (b ++ c ∷ d)
+    → Each (IsApart c') b → Each (IsApart c') d → AreApart (b ++ c' ∷ d)
 apart-again [] c c' d e before behind = (behind, e.1)
 apart-again (x ∷ xs) c c' d e before behind =
-    let p = each-parts (IsApart x) xs (c ∷ d) e.0 in
-    (each-join (IsApart x) xs (c' ∷ d) p.0 ((λ t h k. before.0 t k h), p.1.1), apart-again xs c c' d e.1 before.1 behind)
+    let p = each-parts (IsApart x) xs (c ∷ d) e.0 in (
+      each-join (IsApart x) xs (c' ∷ d) p.0 ((λ t h k. before.0 t k h), p.1.1),
+      apart-again xs c c' d e.1 before.1
+          behind,
+    )
 
 pub record Split (p : BookOrder → Bool) (f : BookOrder → BookOrder) (cs : List BookOrder) (c : BookOrder) : Type 0 where
   pub before : List BookOrder
@@ -141,22 +156,39 @@ pub record Split (p : BookOrder → Bool) (f : BookOrder → BookOrder) (cs : Li
   pub now : change p f cs ≡ before ++ f c ∷ behind
   pub passes : p c ≡ true
 
-pub split : (p : BookOrder → Bool) (f : BookOrder → BookOrder) (cs : List BookOrder) (c : BookOrder) → find p cs ≡ Some c → Split p f cs c
+pub split : (p : BookOrder → Bool) (f : BookOrder → BookOrder) (cs : List BookOrder) (c : BookOrder)
+    → find p cs ≡ Some c → Split p f cs c
 split p f [] c e = absurd (cc)
 split p f (x ∷ xs) c e = by_test (p x) refl e (λ found. split p f xs c found)
   where
-    by_test : (b : Bool) → p x ≡ b → (if b then Some x else find p xs) ≡ Some c → (find p xs ≡ Some c → Split p f xs c) → Split p f (x ∷ xs) c
+    by_test : (b : Bool) → p x ≡ b → (if b then Some x else find p xs) ≡ Some c → (find p xs ≡ Some c → Split p f xs c)
+        → Split p f (x ∷ xs) c
     by_test true is found later =
         let same : x ≡ c = cc in
-        record { before = []; behind = xs; was = ap (λ y. y ∷ xs) same; now = rw is (ap (λ y. f y ∷ xs) same); passes = subst (λ y. p y ≡ true) same is }
+        record {
+          before = [];
+          behind = xs;
+          was = ap (λ y. y ∷ xs) same;
+          now = rw is (ap (λ y. f y ∷ xs) same);
+          passes =
+              subst (λ y. p y ≡ true) same is;
+        }
     by_test false is found later =
         let s = later found in
-        record { before = x ∷ s.before; behind = s.behind; was = ap (λ ys. x ∷ ys) s.was; now = rw is (ap (λ ys. x ∷ ys) s.now); passes = s.passes }
+        record {
+          before = x ∷ s.before;
+          behind = s.behind;
+          was = ap (λ ys. x ∷ ys) s.was;
+          now =
+              rw is (ap (λ ys. x ∷ ys) s.now);
+          passes = s.passes;
+        }
 
 -- ---- one chain becomes another, and a message says so
 
 module _ (m m' : Machine) (said : List Outbound) (a : Outbound) (t : List ℕ) (about : IsAbout t a)
-    (b : List BookOrder) (c c' : BookOrder) (d : List BookOrder) (was : m.book ≡ b ++ c ∷ d) (now : m'.book ≡ b ++ c' ∷ d)
+    (b : List BookOrder) (c c' : BookOrder) (d : List BookOrder) (was : m.book ≡ b ++ c ∷ d)
+    (now : m'.book ≡ b ++ c' ∷ d)
     (in_it : holds t c ≡ true)
     (more : (u : List ℕ) → is_token_used m u ≡ true → is_token_used m' u ≡ true)
     (more_matches : (k : ℕ) → is_match m k ≡ true → is_match m' k ≡ true)
@@ -170,12 +202,15 @@ module _ (m m' : Machine) (said : List Outbound) (a : Outbound) (t : List ℕ) (
   other-chain : (x : BookOrder) → Both x → IsChain m' (a ∷ said) x
   other-chain x k = record {
     known = λ u h. more u (k.0.known u h);
-    matched = each-all (λ (y : Trade). is_match m y.match_number ≡ true) (λ (y : Trade). is_match m' y.match_number ≡ true) x.trades (λ y e. more_matches y.match_number e) k.0.matched;
-    book = λ side. ap (λ l. after l a) (k.0.book side) ∙ untouched (life_in_book side x) a t about (filled x) (is-false (holds t x) (λ h. k.1 t in_it h));
+    matched = each-all (λ (y : Trade). is_match m y.match_number ≡ true)
+        (λ (y : Trade). is_match m' y.match_number ≡ true) x.trades (λ y e. more_matches y.match_number e) k.0.matched;
+    book = λ side. ap (λ l. after l a) (k.0.book side)
+        ∙ untouched (life_in_book side x) a t about (filled x) (is-false (holds t x) (λ h. k.1 t in_it h));
   }
 
   other-apart : (x : BookOrder) → Both x → IsApart c' x
-  other-apart x k u h h' = ⊎_elim (λ old. k.1 u old h') (λ unused. not-both (is_token_used m u) (k.0.known u h') unused) (tokens u h)
+  other-apart x k u h h' = ⊎_elim (λ old. k.1 u old h') (λ unused. not-both (is_token_used m u) (k.0.known u h') unused)
+      (tokens u h)
 
   pub changed-Sound : IsSound m said → IsSound m' (a ∷ said)
   changed-Sound s =
@@ -185,17 +220,22 @@ module _ (m m' : Machine) (said : List Outbound) (a : Outbound) (t : List ℕ) (
       let behind = each-both (IsChain m said) (IsApart c) d e.1.1 (apart-behind b c d q) in
       record {
         each = subst (Each (IsChain m' (a ∷ said))) (sym now)
-            (each-join (IsChain m' (a ∷ said)) b (c' ∷ d) (each-all Both (IsChain m' (a ∷ said)) b other-chain before) (step e.1.0, each-all Both (IsChain m' (a ∷ said)) d other-chain behind));
+            (each-join (IsChain m' (a ∷ said)) b (c' ∷ d) (each-all Both (IsChain m' (a ∷ said)) b other-chain before)
+            (step e.1.0, each-all Both (IsChain m' (a ∷ said)) d other-chain behind));
         apart = subst AreApart (sym now)
-            (apart-again b c c' d q (each-all Both (IsApart c') b other-apart before) (each-all Both (IsApart c') d other-apart behind));
-        outside = λ u none side. out u (each-parts (λ x. holds u x ≡ false) b (c' ∷ d) (subst (Each (λ x. holds u x ≡ false)) now none)) side;
+            (apart-again b c c' d q (each-all Both (IsApart c') b other-apart before)
+            (each-all Both (IsApart c') d other-apart behind));
+        outside = λ u none side. out u (each-parts (λ x. holds u x ≡ false) b (c' ∷ d)
+            (subst (Each (λ x. holds u x ≡ false)) now none)) side;
       }
     where
-      out : (u : List ℕ) → Each (λ x. holds u x ≡ false) b × Each (λ x. holds u x ≡ false) (c' ∷ d) → (side : ℕ) → life u side (a ∷ said) ≡ vacant (is_token_used m' u) u side
+      out : (u : List ℕ) → Each (λ x. holds u x ≡ false) b × Each (λ x. holds u x ≡ false) (c' ∷ d) → (side : ℕ)
+          → life u side (a ∷ said) ≡ vacant (is_token_used m' u) u side
       out u none side =
           let not_in : holds u c ≡ false = is-false (holds u c) (λ h. not-both (holds u c') (kept u h) none.1.0) in
           let old = each-join (λ x. holds u x ≡ false) b (c ∷ d) none.0 (not_in, none.1.1) in
-          let differ : bytes_eq t u ≡ false = is-false (bytes_eq t u) (λ h. not-both (holds u c) (subst (λ w. holds w c ≡ true) (eq-is t u h) in_it) not_in) in
+          let differ : bytes_eq t u ≡ false = is-false (bytes_eq t u)
+          (λ h. not-both (holds u c) (subst (λ w. holds w c ≡ true) (eq-is t u h) in_it) not_in) in
           ap (λ l. after l a) (s.outside u (subst (Each (λ x. holds u x ≡ false)) (sym was) old) side)
           ∙ vacant-untouched (is_token_used m u) u side a t about differ
           ∙ ap (λ x. vacant x u side) (sym (same_used u none.1.0))

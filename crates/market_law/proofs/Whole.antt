@@ -45,9 +45,11 @@ abbrev pub IsWhole : BookOrder → Type 0
 IsWhole c = c.replacements ≡ [] → c.entered.minimum_quantity ≡ c.entered.shares → IsUntraded c ⊎ IsTraded c
 
 pub all-or-nothing : (c : BookOrder) → IsWhole c → IsAllOrNothing c
-all-or-nothing c k unreplaced whole = ⊎_elim (λ u. inl u.executed) (λ t. by_trade t.trade.is_broken t.executed) (k unreplaced whole)
+all-or-nothing c k unreplaced whole = ⊎_elim (λ u. inl u.executed) (λ t. by_trade t.trade.is_broken t.executed)
+    (k unreplaced whole)
   where
-    by_trade : (b : Bool) → c.executed ≡ (if b then 0 else c.entered.shares) → (c.executed ≡ 0) ⊎ (c.executed ≡ c.entered.shares)
+    by_trade : (b : Bool) → c.executed ≡ (if b then 0 else c.entered.shares)
+        → (c.executed ≡ 0) ⊎ (c.executed ≡ c.entered.shares)
     by_trade true e = inl e
     by_trade false e = inr e
 
@@ -55,13 +57,16 @@ off-whole : (q : ℕ) (c : BookOrder) → IsWhole c → IsWhole (taken_off q c)
 off-whole q c k unreplaced whole = ⊎_elim (λ u. inl (untraded u)) (λ t. inr (traded t)) (k unreplaced whole)
   where
     untraded : IsUntraded c → IsUntraded (taken_off q c)
-    untraded u = let less = u.unfilled in record { is_first = u.is_first; executed = u.executed; trades = u.trades; unfilled = omega (arith, less) }
+    untraded u = let less = u.unfilled in record
+        { is_first = u.is_first; executed = u.executed; trades = u.trades; unfilled = omega (arith, less) }
 
     traded : IsTraded c → IsTraded (taken_off q c)
-    traded t = let none = t.unfilled in record { unfilled = omega (arith, none); trade = t.trade; trades = t.trades; shares = t.shares; executed = t.executed }
+    traded t = let none = t.unfilled in record
+        { unfilled = omega (arith, none); trade = t.trade; trades = t.trades; shares = t.shares; executed = t.executed }
 
 -- a first trade is of all shares, and there is no second one
-traded-whole : (n : ℕ) (x : Trading) (c : BookOrder) → may_trade x.shares c ≡ true → IsWhole c → IsWhole (traded_in_book n x c)
+traded-whole : (n : ℕ) (x : Trading) (c : BookOrder) → may_trade x.shares c ≡ true → IsWhole c
+    → IsWhole (traded_in_book n x c)
 traded-whole n x c may k unreplaced whole = ⊎_elim (λ u. inr (first u)) (λ t. absurd (second t)) (k unreplaced whole)
   where
     parts : (is_open_for x.shares c ≡ true) × ((c.has_traded || nat_le (minimum_of c) x.shares) ≡ true)
@@ -74,7 +79,8 @@ traded-whole n x c may k unreplaced whole = ⊎_elim (λ u. inr (first u)) (λ t
     is_le a b e = grind (arith, nat_tests)
 
     second : IsTraded c → ⊥
-    second t = let none = t.unfilled in let some = is_le 1 x.shares opens.0 in let less = is_le x.shares c.unfilled opens.1 in omega (arith, none, some, less)
+    second t = let none = t.unfilled in let some = is_le 1 x.shares opens.0 in let less =
+        is_le x.shares c.unfilled opens.1 in omega (arith, none, some, less)
 
     least : minimum_of c ≡ c.entered.shares
     least = rw unreplaced whole
@@ -97,7 +103,8 @@ traded-whole n x c may k unreplaced whole = ⊎_elim (λ u. inr (first u)) (λ t
         record {
           unfilled = omega (arith, is, most);
           trade = record { match_number = n; shares = x.shares; price = x.price; is_broken = false };
-          trades = ap (λ ys. record { match_number = n; shares = x.shares; price = x.price; is_broken = false } ∷ ys) u.trades;
+          trades = ap (λ ys. record { match_number = n; shares = x.shares; price = x.price; is_broken = false } ∷ ys)
+              u.trades;
           shares = is;
           executed = omega (arith, none, is);
         }
@@ -123,7 +130,8 @@ broken-whole n c k = by_found (find (stands_as n) c.trades) refl
             at_most true h = omega (arith, h)
             at_most false h = omega (arith, h)
 
-            by_stands : (b : Bool) → stands_as n t.trade ≡ b → (if b then Some t.trade else None) ≡ Some y → IsTraded (without n (Some y) c)
+            by_stands : (b : Bool) → stands_as n t.trade ≡ b → (if b then Some t.trade else None) ≡ Some y
+                → IsTraded (without n (Some y) c)
             by_stands false s f = absurd (cc)
             by_stands true s f =
                 let stood = and-parts (t.trade.match_number == n) (not t.trade.is_broken) s in
@@ -143,8 +151,16 @@ module _ (m : Machine) (w : Each IsWhole m.book) where
   Keeping s = Each IsWhole s.machine.book
 
   entered : (order : EnterOrder) (answer : ToEnter) → Keeping (enter m order answer)
-  entered order (Takes Live) = (λ unreplaced whole. inl (record { is_first = refl; executed = refl; trades = refl; unfilled = omega arith }), w)
-  entered order (Takes Dead) = (λ unreplaced whole. inl (record { is_first = refl; executed = refl; trades = refl; unfilled = omega arith }), w)
+  entered order (Takes Live) = (
+    λ unreplaced whole. inl
+        (record { is_first = refl; executed = refl; trades = refl; unfilled = omega arith }),
+    w,
+  )
+  entered order (Takes Dead) = (
+    λ unreplaced whole. inl
+        (record { is_first = refl; executed = refl; trades = refl; unfilled = omega arith }),
+    w,
+  )
   entered order (Rejects reason) = w
 
   cancelled-all : (t : List ℕ) (c : BookOrder) → Keeping (cancel_all m t c)
@@ -153,14 +169,16 @@ module _ (m : Machine) (w : Each IsWhole m.book) where
   module _ (r : Replace) (c : BookOrder) where
     by_left : (state : OrderState) (left : ℕ) (most : left ≤ 999_999) → Keeping (move m r c state left most)
     by_left state zero most = cancelled-all r.token c
-    by_left state (suc left) most = each-change IsWhole (is_live_as r.token) (moved r (suc left) (shares-fit (suc left) most) state) m.book (λ x k. is_replaced state x) w
+    by_left state (suc left) most = each-change IsWhole (is_live_as r.token)
+        (moved r (suc left) (shares-fit (suc left) most) state) m.book (λ x k. is_replaced state x) w
       where
         is_replaced : (b : OrderState) (x : BookOrder) → IsWhole (moved r (suc left) (shares-fit (suc left) most) b x)
         is_replaced Live x unreplaced whole = absurd (cc)
         is_replaced Dead x unreplaced whole = absurd (cc)
 
     replaced : (answer : ToReplace) → Keeping (replace m r c answer)
-    replaced (Replaces state) = by_left state (r.shares - c.executed) (less-than-most r.shares c.executed r.shares_set.1)
+    replaced (Replaces state) = by_left state (r.shares - c.executed)
+        (less-than-most r.shares c.executed r.shares_set.1)
     replaced TakesOff = cancelled-all r.token c
     replaced (Keeps reason) = w
 
@@ -199,11 +217,14 @@ module _ (m : Machine) (w : Each IsWhole m.book) where
       by_chain None at = w
       by_chain (Some c) at = by_test (may_trade x.shares c) refl
         where
-          by_number : may_trade x.shares c ≡ true → (b : Bool) (z : nat_lt (suc m.matches) (2 ^ 64) ≡ b) → Keeping (trade_by m x c b z)
-          by_number may true n = each-first IsWhole (is_live_as x.token) (traded_in_book (suc m.matches) x) m.book c at (traded-whole (suc m.matches) x c may (found-passes IsWhole (is_live_as x.token) m.book c at w).0) w
+          by_number : may_trade x.shares c ≡ true → (b : Bool) (z : nat_lt (suc m.matches) (2 ^ 64) ≡ b)
+              → Keeping (trade_by m x c b z)
+          by_number may true n = each-first IsWhole (is_live_as x.token) (traded_in_book (suc m.matches) x) m.book c at
+              (traded-whole (suc m.matches) x c may (found-passes IsWhole (is_live_as x.token) m.book c at w).0) w
           by_number may false n = w
 
-          by_test : (b : Bool) → may_trade x.shares c ≡ b → Keeping (if b then trade_by m x c (nat_lt (suc m.matches) (2 ^ 64)) refl else says_nothing m)
+          by_test : (b : Bool) → may_trade x.shares c ≡ b
+              → Keeping (if b then trade_by m x c (nat_lt (suc m.matches) (2 ^ 64)) refl else says_nothing m)
           by_test true z = by_number z (nat_lt (suc m.matches) (2 ^ 64)) refl
           by_test false z = w
   moves-whole (Acts (choose.TakeOff x)) = by_chain (live_order m x.token)
@@ -212,14 +233,16 @@ module _ (m : Machine) (w : Each IsWhole m.book) where
       by_chain None = w
       by_chain (Some c) = by_test (is_open_for x.shares c)
         where
-          by_test : (b : Bool) → Keeping (if b then saying (with_live_order x.token (taken_off x.shares) m) (canceled (live_of c) x.shares x.shares_set) else says_nothing m)
+          by_test : (b : Bool) → Keeping (if b then saying (with_live_order x.token (taken_off x.shares) m)
+              (canceled (live_of c) x.shares x.shares_set) else says_nothing m)
           by_test true = each-change IsWhole (is_live_as x.token) (taken_off x.shares) m.book (off-whole x.shares) w
           by_test false = w
   moves-whole (Acts (choose.Break x)) = by_chain (find (has_trade x.match_number) m.book)
     where
       by_chain : (found : Option BookOrder) → Keeping (break_on m x found)
       by_chain None = w
-      by_chain (Some c) = each-change IsWhole (has_trade x.match_number) (broken_off x.match_number) m.book (broken-whole x.match_number) w
+      by_chain (Some c) = each-change IsWhole (has_trade x.match_number) (broken_off x.match_number) m.book
+          (broken-whole x.match_number) w
   moves-whole (Acts (choose.SystemEvent event)) = w
   moves-whole (Acts choose.AcceptLive) = w
   moves-whole (Acts choose.AcceptDead) = w

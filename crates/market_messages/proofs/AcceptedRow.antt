@@ -34,7 +34,9 @@ pub symbol-fields : (m : NewOrder) → text 55 (new_order_fields m) ≡ m.symbol
 symbol-fields m = text_there 55 (new_order_fields m) m.symbol (symbol-value m)
 
 -- the stock and the side are those of the order
-pub same-sides : (stock : List ℕ) (side : Side) (o : OrderRecord) → (bytes_eq (unpadded stock) (text 55 o.new.message) && (fix_side side == character 54 o.new.message)) ≡ same_terms side stock o.new
+pub same-sides : (stock : List ℕ) (side : Side) (o : OrderRecord)
+    → (bytes_eq (unpadded stock) (text 55 o.new.message) && (fix_side side == character 54 o.new.message))
+    ≡ same_terms side stock o.new
 same-sides stock Buy o = refl
 same-sides stock Sell o = refl
 same-sides stock SellShort o = refl
@@ -55,7 +57,8 @@ module _ (issued : ℕ) (m : Accepted) (o : OrderRecord) where
   closed-shown : law.closed (law.shown_opened m.shares m.price (shown_as o)) ≡ shown_as over
   closed-shown = refl
 
-  pub accepted-now : changed_by (changes.Opened m.shares m.price (is_dead m.order_state)) o ≡ after_message issued (market.Accepted m) o
+  pub accepted-now : changed_by (changes.Opened m.shares m.price (is_dead m.order_state)) o
+      ≡ after_message issued (market.Accepted m) o
   accepted-now = refl
 
   told : told_of issued (market.Accepted m) o ≡ law.report (issued + 1) (law.plain (codes "0")) (shown_as alive) ∷ (if is_dead m.order_state then law.cancelled (issued + 2) None (shown_as over) else [])
@@ -71,5 +74,6 @@ module _ (issued : ℕ) (m : Accepted) (o : OrderRecord) where
 
 pub open-waits : (m : Accepted) (o : OrderRecord) → is_lawful (market.Accepted m) o ≡ true → o.stage ≡ Waiting
 open-waits m o may =
-    let waits = (and_parts (is_live (record_life o) m.token) (is_waiting o.stage && same_terms m.side m.stock o.new) may).1 in
+    let waits = (and_parts (is_live (record_life o) m.token)
+    (is_waiting o.stage && same_terms m.side m.stock o.new) may).1 in
     waits-is o.stage (and_parts (is_waiting o.stage) (same_terms m.side m.stock o.new) waits).0

@@ -32,14 +32,18 @@ abbrev pub is_standing : ℕ → table.ToldTrade → Bool
 is_standing match_number t = stands_told match_number (told_seen t)
 
 -- of the table's trades, and of those of its record
-pub standing-seen : (n : ℕ) (ts : List table.ToldTrade) → option_map told_seen (find (is_standing n) (reverse ts)) ≡ find (stands_told n) (reverse (map told_seen ts))
-standing-seen n ts = sym (find-map told_seen (stands_told n) (reverse ts)) ∙ ap (find (stands_told n)) (map-reverse told_seen ts)
+pub standing-seen : (n : ℕ) (ts : List table.ToldTrade)
+    → option_map told_seen (find (is_standing n) (reverse ts)) ≡ find (stands_told n) (reverse (map told_seen ts))
+standing-seen n ts = sym (find-map told_seen (stands_told n) (reverse ts))
+    ∙ ap (find (stands_told n)) (map-reverse told_seen ts)
 
-any-stands : (n : ℕ) (ts : List ToldTrade) → list_any (stands_as n) (map trade_of ts) ≡ is_some (find (stands_told n) ts)
+any-stands : (n : ℕ) (ts : List ToldTrade)
+    → list_any (stands_as n) (map trade_of ts) ≡ is_some (find (stands_told n) ts)
 any-stands n [] = refl
 any-stands n (t ∷ ts) = by_test (stands_as n t.trade) (any-stands n ts)
   where
-    by_test : (b : Bool) → list_any (stands_as n) (map trade_of ts) ≡ is_some (find (stands_told n) ts) → (b || list_any (stands_as n) (map trade_of ts)) ≡ is_some (if b then Some t else find (stands_told n) ts)
+    by_test : (b : Bool) → list_any (stands_as n) (map trade_of ts) ≡ is_some (find (stands_told n) ts)
+        → (b || list_any (stands_as n) (map trade_of ts)) ≡ is_some (if b then Some t else find (stands_told n) ts)
     by_test true e = refl
     by_test false e = e
 
@@ -60,7 +64,8 @@ first-is n (x ∷ xs) t e = by_test (stands_as n x.trade) refl e (λ f. first-is
         first_of_both true d e = refl
         first_of_both false d e = absurd (cc)
 
-    by_test : (b : Bool) → stands_as n x.trade ≡ b → (if b then Some x else find (stands_told n) xs) ≡ Some t → (find (stands_told n) xs ≡ Some t → IsFirst n xs t) → IsFirst n (x ∷ xs) t
+    by_test : (b : Bool) → stands_as n x.trade ≡ b → (if b then Some x else find (stands_told n) xs) ≡ Some t
+        → (find (stands_told n) xs ≡ Some t → IsFirst n xs t) → IsFirst n (x ∷ xs) t
     by_test true it e later =
         let same : x ≡ t = cc in
         subst (IsFirst n (x ∷ xs)) same (record {
@@ -77,7 +82,8 @@ marks-same n ts = map-map trade_of (marked n) ts ∙ sym (map-map (mark n) trade
 
 -- ---- when it is lawful
 
-pub broken-unlawful : (m : Broken) (o : OrderRecord) → find (stands_told m.match_number) o.trades ≡ None → is_lawful (market.Broken m) o ≡ false
+pub broken-unlawful : (m : Broken) (o : OrderRecord) → find (stands_told m.match_number) o.trades ≡ None
+    → is_lawful (market.Broken m) o ≡ false
 broken-unlawful m o none = by_token (is_of (record_life o) m.token)
   where
     stands : list_any (stands_as m.match_number) (record_life o).trades ≡ false
@@ -98,11 +104,13 @@ module _ (issued : ℕ) (m : Broken) (o : OrderRecord) (told : table.ToldTrade) 
 
   -- one that waits has no trades
   pub break-accepted : o.stage ≡ Waiting → ⊥
-  break-accepted waits = let x : None ≡ Some t = ap (find (stands_told m.match_number)) (sym (steady.idle waits)) ∙ here in cc
+  break-accepted waits = let x : None ≡ Some t = ap (find (stands_told m.match_number)) (sym (steady.idle waits)) ∙ here
+      in cc
 
   pub broken-is-lawful : is_lawful (market.Broken m) o ≡ true
   broken-is-lawful =
-      let stands : list_any (stands_as m.match_number) (record_life o).trades ≡ true = any-stands m.match_number o.trades ∙ ap (λ (x : Option ToldTrade). is_some x) here in
+      let stands : list_any (stands_as m.match_number) (record_life o).trades ≡ true =
+      any-stands m.match_number o.trades ∙ ap (λ (x : Option ToldTrade). is_some x) here in
       rw (own, stands) refl
 
   first : IsFirst m.match_number o.trades t
@@ -126,10 +134,12 @@ module _ (issued : ℕ) (m : Broken) (o : OrderRecord) (told : table.ToldTrade) 
   shown : law.lived (record_life (with_trade_broken t o)) (shown_as o) ≡ shown_as left
   shown = rw open_as refl
 
-  pub broken-told : told_of issued (market.Broken m) o ≡ law.report (issued + 1) (occasion_seen (occasions.TradeCancel told.number m.reason)) (shown_as left) ∷ []
+  pub broken-told : told_of issued (market.Broken m) o
+      ≡ law.report (issued + 1) (occasion_seen (occasions.TradeCancel told.number m.reason)) (shown_as left) ∷ []
   broken-told =
       (let exec = first.exec_id in rw (lives, exec) refl)
-      ∙ ap (λ (s : law.Shown). law.report (issued + 1) (occasion_seen (occasions.TradeCancel told.number m.reason)) s ∷ []) shown
+      ∙ ap (λ (s : law.Shown). law.report (issued + 1)
+      (occasion_seen (occasions.TradeCancel told.number m.reason)) s ∷ []) shown
 
   pub broken-now : changed_by (changes.Broken told) o ≡ after_message issued (market.Broken m) o
   broken-now = rw here refl

@@ -12,8 +12,10 @@ module _ (m : CancelReject) (o : OrderRecord) where
   abbrev pub left : OrderRecord
   left = with_quantities (changed_by (changes.NotCanceled m.token) o) o
 
-  pub reject-told : (issued : ℕ) → told_of issued (market.CancelReject m) o ≡ law.cancel_rejected (last_after (bytes_eq m.token) o.cancel) (shown_as left)
+  pub reject-told : (issued : ℕ) → told_of issued (market.CancelReject m) o
+      ≡ law.cancel_rejected (last_after (bytes_eq m.token) o.cancel) (shown_as left)
   reject-told issued = refl
 
-  pub reject-now : (issued : ℕ) → changed_by (changes.NotCanceled m.token) o ≡ after_message issued (market.CancelReject m) o
+  pub reject-now : (issued : ℕ) → changed_by (changes.NotCanceled m.token) o
+      ≡ after_message issued (market.CancelReject m) o
   reject-now issued = refl

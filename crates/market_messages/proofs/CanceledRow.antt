@@ -36,15 +36,19 @@ module _ (m : Canceled) (o : OrderRecord) (may : is_lawful (market.Canceled m) o
     pub canceled-now : changed_by (changes.Canceled m.decrement) o ≡ after_message issued (market.Canceled m) o
     canceled-now = refl
 
-    pub gone-told : m.decrement ≡ o.unfilled → told_of issued (market.Canceled m) o ≡ law.cancelled (issued + 1) (Some (m.reason ∷ [])) (shown_as left)
+    pub gone-told : m.decrement ≡ o.unfilled → told_of issued (market.Canceled m) o
+        ≡ law.cancelled (issued + 1) (Some (m.reason ∷ [])) (shown_as left)
     gone-told all =
         let works = cancel-works in
         let nothing : o.unfilled - m.decrement ≡ 0 = omega (arith, all) in
         rw (token, works, nothing) refl
 
-    pub reduced-told : ((m.decrement ≡ o.unfilled) → ⊥) → told_of issued (market.Canceled m) o ≡ law.report (issued + 1) (occasion_seen (occasions.Restated m.reason)) (shown_as left) ∷ []
+    pub reduced-told : ((m.decrement ≡ o.unfilled) → ⊥)
+        → told_of issued (market.Canceled m) o ≡ law.report (issued + 1) (occasion_seen (occasions.Restated m.reason))
+        (shown_as left) ∷ []
     reduced-told part =
         let works = cancel-works in
         let few = cancel-few in
-        let some : (o.unfilled - m.decrement == 0) ≡ false = ne_eqb (o.unfilled - m.decrement) 0 (λ e. part (omega (arith, few, e))) in
+        let some : (o.unfilled - m.decrement == 0) ≡ false =
+        ne_eqb (o.unfilled - m.decrement) 0 (λ e. part (omega (arith, few, e))) in
         rw (token, some, works) refl

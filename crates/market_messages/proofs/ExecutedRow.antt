@@ -27,7 +27,9 @@ abbrev pub trade_said : Executed → ℕ → table.ToldTrade
 trade_said m number = record { trade = trade_in m; number = number }
 
 -- the trades of a table's order and those of its record
-pub any-seen : (n : ℕ) (ts : List table.ToldTrade) → list_any (λ (t : table.ToldTrade). t.trade.match_number == n) ts ≡ list_any (λ (t : Trade). t.match_number == n) (map (λ (t : ToldTrade). t.trade) (reverse (map told_seen ts)))
+pub any-seen : (n : ℕ) (ts : List table.ToldTrade)
+    → list_any (λ (t : table.ToldTrade). t.trade.match_number == n) ts
+    ≡ list_any (λ (t : Trade). t.match_number == n) (map (λ (t : ToldTrade). t.trade) (reverse (map told_seen ts)))
 any-seen n ts =
     sym (any-map (λ (t : Trade). t.match_number == n) (λ (t : ToldTrade). t.trade) (reverse (map told_seen ts))
     ∙ any-reverse (λ (t : ToldTrade). t.trade.match_number == n) (map told_seen ts)
@@ -55,18 +57,24 @@ module _ (m : Executed) (o : OrderRecord) (may : is_lawful (market.Executed m) o
     abbrev pub left : OrderRecord
     left = with_quantities (changed_by (changes.Traded (trade_said m (issued + 1))) o) o
 
-    pub executed-now : changed_by (changes.Traded (trade_said m (issued + 1))) o ≡ after_message issued (market.Executed m) o
+    pub executed-now : changed_by (changes.Traded (trade_said m (issued + 1))) o
+        ≡ after_message issued (market.Executed m) o
     executed-now = refl
 
-    pub filled-told : m.shares ≡ o.unfilled → told_of issued (market.Executed m) o ≡ law.report (issued + 1) (occasion_seen (occasions.Trade m.shares m.price)) (shown_as left) ∷ law.too_late (shown_as left)
+    pub filled-told : m.shares ≡ o.unfilled → told_of issued (market.Executed m) o
+        ≡ law.report (issued + 1) (occasion_seen (occasions.Trade m.shares m.price)) (shown_as left) ∷ law.too_late
+        (shown_as left)
     filled-told all =
         let works = trade-works in
         let nothing : o.unfilled - m.shares ≡ 0 = omega (arith, all) in
         rw (token, works, nothing) refl
 
-    pub traded-told : ((m.shares ≡ o.unfilled) → ⊥) → told_of issued (market.Executed m) o ≡ law.report (issued + 1) (occasion_seen (occasions.Trade m.shares m.price)) (shown_as left) ∷ []
+    pub traded-told : ((m.shares ≡ o.unfilled) → ⊥)
+        → told_of issued (market.Executed m) o ≡ law.report (issued + 1)
+        (occasion_seen (occasions.Trade m.shares m.price)) (shown_as left) ∷ []
     traded-told part =
         let works = trade-works in
         let few = trade-few in
-        let some : (o.unfilled - m.shares == 0) ≡ false = ne_eqb (o.unfilled - m.shares) 0 (λ e. part (omega (arith, few, e))) in
+        let some : (o.unfilled - m.shares == 0) ≡ false =
+        ne_eqb (o.unfilled - m.shares) 0 (λ e. part (omega (arith, few, e))) in
         rw (token, some, works) refl

@@ -12,7 +12,8 @@ use Rattle.orders.specs.order_law.Lawful.{is_first}
 use Rattle.orders.specs.order_law.Life.{is_waiting}
 use Rattle.orders.specs.order_law.Told as law
 use Rattle.orders.specs.order_law.Verdicts.{is_replace}
-use Rattle.order_machine.specs.OrderRecord.{OrderRecord, after_message, at, last_after, live_token, replacements, shown_as}
+use Rattle.order_machine.specs.OrderRecord.{OrderRecord, after_message, at, last_after, live_token, replacements}
+use Rattle.order_machine.specs.OrderRecord.{shown_as}
 use Rattle.order_machine.specs.OrderRecord.{still_after}
 use Rattle.order_machine.proofs.Texts.{eq-is}
 use Rattle.orders.specs.Changes.{changed_by, with_quantities}
@@ -36,7 +37,9 @@ module _ (issued : ℕ) (m : Rejected) (o : OrderRecord) (may : rejects_new m o 
   pub refuse-waits : o.stage ≡ Waiting
   refuse-waits = waits-is o.stage ((and_parts (bytes_eq m.token (live_token o)) (is_waiting o.stage) may).1)
 
-  pub refused-told : told_of issued (market.Rejected m) o ≡ law.report (issued + 1) (occasion_seen (occasions.Rejected m.reason)) (shown_as over) ∷ law.too_late (shown_as over)
+  pub refused-told : told_of issued (market.Rejected m) o
+      ≡ law.report (issued + 1) (occasion_seen (occasions.Rejected m.reason)) (shown_as over) ∷ law.too_late
+      (shown_as over)
   refused-told = rw (token, refuse-waits) refl
 
   pub refused-now : changed_by changes.Refused o ≡ after_message issued (market.Rejected m) o
@@ -45,11 +48,15 @@ module _ (issued : ℕ) (m : Rejected) (o : OrderRecord) (may : rejects_new m o 
 -- ---- of the oldest pending replace
 
 -- it is the first of them
-pub the-first : (token : List ℕ) (o : OrderRecord) (q : Entry) (qs : List Entry) → is_first token (replacements o.replaces) ≡ true → o.replaces ≡ q ∷ qs → token ≡ token_of q
-the-first token o q qs first all = eq-is token (token_of q) (ap (λ (rs : List Entry). is_first token (replacements rs)) (sym all) ∙ first)
+pub the-first : (token : List ℕ) (o : OrderRecord) (q : Entry) (qs : List Entry)
+    → is_first token (replacements o.replaces) ≡ true → o.replaces ≡ q ∷ qs → token ≡ token_of q
+the-first token o q qs first all = eq-is token (token_of q)
+    (ap (λ (rs : List Entry). is_first token (replacements rs)) (sym all) ∙ first)
 
-pub none-replacing : (token : List ℕ) (o : OrderRecord) → is_first token (replacements o.replaces) ≡ true → o.replaces ≡ [] → ⊥
-none-replacing token o first none = let x : false ≡ true = ap (λ (rs : List Entry). is_first token (replacements rs)) (sym none) ∙ first in cc
+pub none-replacing : (token : List ℕ) (o : OrderRecord) → is_first token (replacements o.replaces) ≡ true
+    → o.replaces ≡ [] → ⊥
+none-replacing token o first none = let x : false ≡ true =
+    ap (λ (rs : List Entry). is_first token (replacements rs)) (sym none) ∙ first in cc
 
 -- all of them fall with it
 from-first : (token : List ℕ) (tokens : List (List ℕ)) → is_first token tokens ≡ true → from_token token tokens ≡ tokens
@@ -70,23 +77,29 @@ module _ (issued : ℕ) (m : Rejected) (o : OrderRecord) (not_new : rejects_new 
   falls = from-first m.token (replacements o.replaces) first
 
   pub not_replaced-now : changed_by changes.NotReplaced o ≡ after_message issued (market.Rejected m) o
-  not_replaced-now = rw not_refused (ap (λ (ts : List (List ℕ)). at o [] (still_after (λ token. list_any (bytes_eq token) ts) o.cancel)) (sym falls))
+  not_replaced-now = rw not_refused (ap (λ (ts : List (List ℕ)). at o []
+      (still_after (λ token. list_any (bytes_eq token) ts) o.cancel)) (sym falls))
 
   abbrev pub is_last : Bool
   is_last = last_after (λ token. list_any (bytes_eq token) (replacements o.replaces)) o.cancel
 
   -- as it is shown then, with no replace pending
   abbrev pub rest : law.Shown
-  rest = record (shown_as (with_quantities (changed_by changes.NotReplaced o) o)) { pending = option_to_list (cancel_in o.cancel) }
+  rest = record (shown_as (with_quantities (changed_by changes.NotReplaced o) o))
+      { pending = option_to_list (cancel_in o.cancel) }
 
   module _ (are : Each (λ (q : Entry). is_replace q.message ≡ true) o.replaces) (is_f : IfSome (cancel_in o.cancel) (λ (p : Entry). is_replace p.message ≡ false)) (in_order : (shown_as o).pending ≡ o.replaces ++ option_to_list (cancel_in o.cancel)) where
     left : law.without_replaces (shown_as o) ≡ rest
-    left = ap (λ (ps : List Entry). record (shown_as o) { pending = ps }) (ap (filter law.is_cancel) in_order ∙ filter-cancel o.replaces (cancel_in o.cancel) are is_f)
+    left = ap (λ (ps : List Entry). record (shown_as o) { pending = ps })
+        (ap (filter law.is_cancel) in_order ∙ filter-cancel o.replaces (cancel_in o.cancel) are is_f)
 
     pub not_replaced-told : told_of issued (market.Rejected m) o
         ≡ law.each_not_replaced (m.reason ∷ []) (shown_as o) (shown_as o).pending ++ law.cancel_rejected is_last rest
     not_replaced-told =
         rw not_refused (
-        ap (λ (ts : List (List ℕ)). law.each_not_replaced (m.reason ∷ []) (shown_as o) (shown_as o).pending ++ law.cancel_rejected (last_after (λ token. list_any (bytes_eq token) ts) o.cancel) (law.without_replaces (shown_as o))) falls
-        ∙ ap (λ (s : law.Shown). law.each_not_replaced (m.reason ∷ []) (shown_as o) (shown_as o).pending ++ law.cancel_rejected is_last s) left
+        ap (λ (ts : List (List ℕ)). law.each_not_replaced (m.reason ∷ []) (shown_as o) (shown_as o).pending
+        ++ law.cancel_rejected (last_after (λ token. list_any (bytes_eq token) ts) o.cancel)
+        (law.without_replaces (shown_as o))) falls
+        ∙ ap (λ (s : law.Shown). law.each_not_replaced (m.reason ∷ []) (shown_as o) (shown_as o).pending
+        ++ law.cancel_rejected is_last s) left
         )

@@ -24,8 +24,10 @@ use Rattle.market_messages.proofs.RejectedRow.{none-replacing, the-first}
 use Rattle.market_messages.proofs.Stages.{works-parts}
 
 module _ (m : Replaced) (o : OrderRecord) (may : is_lawful (market.Replaced m) o ≡ true) where
-  parts : (works_as (record_life o) m.previous_token ≡ true) × ((is_first m.token (replacements o.replaces) && same_terms m.side m.stock o.new) ≡ true)
-  parts = and_parts (works_as (record_life o) m.previous_token) (is_first m.token (replacements o.replaces) && same_terms m.side m.stock o.new) may
+  parts : (works_as (record_life o) m.previous_token ≡ true)
+      × ((is_first m.token (replacements o.replaces) && same_terms m.side m.stock o.new) ≡ true)
+  parts = and_parts (works_as (record_life o) m.previous_token)
+      (is_first m.token (replacements o.replaces) && same_terms m.side m.stock o.new) may
 
   pub replace-live : m.previous_token ≡ live_token o
   replace-live = eq-is m.previous_token (live_token o) (works-parts (record_life o) m.previous_token parts.0).0
@@ -50,9 +52,11 @@ module _ (token : List ℕ) (q : Entry) (ps : List Entry) (own : token ≡ token
 module _ (issued : ℕ) (m : Replaced) (o : OrderRecord) (q : Entry) (qs : List Entry) (all : o.replaces ≡ q ∷ qs) (own : m.token ≡ token_of q) (live : m.previous_token ≡ live_token o) where
   -- as the order stands then, under a token, once the Cancel Order of another is answered
   abbrev shape : List ℕ → List ℕ → OrderRecord
-  shape token old = over_if (is_dead m.order_state) (at (put_in_book m.shares m.price (renamed token q o)) qs (still_after (bytes_eq old) o.cancel))
+  shape token old = over_if (is_dead m.order_state)
+      (at (put_in_book m.shares m.price (renamed token q o)) qs (still_after (bytes_eq old) o.cancel))
 
-  pub replaced-now : changed_by (changes.Replaced m.shares m.price (is_dead m.order_state)) o ≡ after_message issued (market.Replaced m) o
+  pub replaced-now : changed_by (changes.Replaced m.shares m.price (is_dead m.order_state)) o
+      ≡ after_message issued (market.Replaced m) o
   replaced-now = rw all (ap (λ (t : List ℕ). shape t (live_token o)) (sym own) ∙ ap (shape m.token) (sym live))
 
   module _ (is_g : is_replace q.message ≡ true) (in_order : (shown_as o).pending ≡ o.replaces ++ option_to_list (cancel_in o.cancel)) where
@@ -70,10 +74,12 @@ module _ (issued : ℕ) (m : Replaced) (o : OrderRecord) (q : Entry) (qs : List 
 
     -- as it is shown under the replace
     abbrev pub shown_then : Bool → law.Shown
-    shown_then dead = record (shown_as (with_quantities (changed_by (changes.Replaced m.shares m.price dead) o) o)) { id = text 11 q.message; pending = qs ++ option_to_list (cancel_in o.cancel) }
+    shown_then dead = record (shown_as (with_quantities (changed_by (changes.Replaced m.shares m.price dead) o) o))
+        { id = text 11 q.message; pending = qs ++ option_to_list (cancel_in o.cancel) }
 
     renamed-is : law.shown_renamed m q (shown_as o) ≡ shown_then false
-    renamed-is = ap (λ (ps : List Entry). law.shown_opened m.shares m.price (record (shown_as o) { id = text 11 q.message; pending = ps })) rest ∙ (rw all refl)
+    renamed-is = ap (λ (ps : List Entry). law.shown_opened m.shares m.price
+        (record (shown_as o) { id = text 11 q.message; pending = ps })) rest ∙ (rw all refl)
 
     closed-is : law.closed (shown_then false) ≡ shown_then true
     closed-is = rw all refl
@@ -95,9 +101,14 @@ module _ (issued : ℕ) (m : Replaced) (o : OrderRecord) (q : Entry) (qs : List 
     replaced-dead e = by_dead true e ∙ ap (λ (s : law.Shown). law.report (issued + 1) (law.on_request (codes "5") q) (shown_then false) ∷ law.cancelled (issued + 2) None s) closed-is
 
 -- with any pending replaces
-pub replaced-is : (issued : ℕ) (m : Replaced) (o : OrderRecord) → is_lawful (market.Replaced m) o ≡ true → changed_by (changes.Replaced m.shares m.price (is_dead m.order_state)) o ≡ after_message issued (market.Replaced m) o
+pub replaced-is : (issued : ℕ) (m : Replaced) (o : OrderRecord) → is_lawful (market.Replaced m) o ≡ true
+    → changed_by (changes.Replaced m.shares m.price (is_dead m.order_state)) o
+    ≡ after_message issued (market.Replaced m) o
 replaced-is issued m o may = by_replaces o.replaces refl
   where
-    by_replaces : (rs : List Entry) → o.replaces ≡ rs → changed_by (changes.Replaced m.shares m.price (is_dead m.order_state)) o ≡ after_message issued (market.Replaced m) o
+    by_replaces : (rs : List Entry) → o.replaces ≡ rs
+        → changed_by (changes.Replaced m.shares m.price (is_dead m.order_state)) o
+        ≡ after_message issued (market.Replaced m) o
     by_replaces [] none = absurd (none-replacing m.token o (replace-first m o may) none)
-    by_replaces (q ∷ qs) all = replaced-now issued m o q qs all (the-first m.token o q qs (replace-first m o may) all) (replace-live m o may)
+    by_replaces (q ∷ qs) all = replaced-now issued m o q qs all (the-first m.token o q qs (replace-first m o may) all)
+        (replace-live m o may)

@@ -19,7 +19,8 @@ works-is Closed e = absurd (let x : false ≡ true = e in cc)
 
 -- under this token
 pub works-parts : (l : Life) (token : List ℕ) → works_as l token ≡ true → (is_live l token ≡ true) × (l.stage ≡ Working)
-works-parts l token works = let parts = and_parts (is_live l token) (is_working l.stage) works in (parts.0, works-is l.stage parts.1)
+works-parts l token works = let parts = and_parts (is_live l token) (is_working l.stage) works in
+    (parts.0, works-is l.stage parts.1)
 
 -- so many shares are open
 pub leaves-few : (l : Life) (shares : ℕ) → may_leave shares l ≡ true → shares ≤ l.unfilled

@@ -23,7 +23,8 @@ sequenced-payloads [] = refl
 sequenced-payloads (x ∷ xs) = ap (λ ys. x ∷ ys) (sequenced-payloads xs)
 
 -- more is kept, and goes out where a login was accepted
-kept-served : (r : SimRun) (s : SimState) (payloads : List (List ℕ)) → s.link ≡ r.state.link → s.kept ≡ r.state.kept → IsServed r → IsServed (goes_on None r (keeps_said s payloads))
+kept-served : (r : SimRun) (s : SimState) (payloads : List (List ℕ)) → s.link ≡ r.state.link → s.kept ≡ r.state.kept
+    → IsServed r → IsServed (goes_on None r (keeps_said s payloads))
 kept-served r s payloads link kept served = record {
   sent = λ on.
       let was = served.sent (sym link ∙ on) in
@@ -41,14 +42,16 @@ kept-served r s payloads link kept served = record {
 }
 
 -- nothing sequenced goes out, and nothing is kept
-quiet-served : (r : SimRun) (ps : List Packet) → payloads_in ps ≡ [] → IsServed r → IsServed (goes_on None r (record { state = r.state; packets = ps }))
+quiet-served : (r : SimRun) (ps : List Packet) → payloads_in ps ≡ [] → IsServed r
+    → IsServed (goes_on None r (record { state = r.state; packets = ps }))
 quiet-served r ps none served = record {
   sent = λ on. ap (λ (ys : List (List ℕ)). r.sent ++ ys) none ∙ append-nil r.sent ∙ served.sent on;
   from = served.from;
 }
 
 -- the link has no login
-unlinked-served : (r : SimRun) (link : SimLink) (ps : List Packet) → (link ≡ LoggedIn → ⊥) → IsServed (goes_on None r (record { state = record r.state { link = link }; packets = ps }))
+unlinked-served : (r : SimRun) (link : SimLink) (ps : List Packet) → (link ≡ LoggedIn → ⊥)
+    → IsServed (goes_on None r (record { state = record r.state { link = link }; packets = ps }))
 unlinked-served r link ps other = record { sent = λ on. absurd (other on); from = λ on. absurd (other on) }
 
 no-connected : Connected ≡ LoggedIn → ⊥
@@ -67,13 +70,15 @@ within-known count n (Some k) e = by_test (nat_le k (count + 1)) refl e
     by_test true is e = let same : k ≡ n = cc in subst (λ m. m ≤ count + 1) same (leb-true k (count + 1) is)
     by_test false is e = absurd (cc)
 
-within-if : (count n : ℕ) (a b : Bool) (number : Option ℕ) → (if not a then None else if not b then None else known_number count number) ≡ Some n → n ≤ count + 1
+within-if : (count n : ℕ) (a b : Bool) (number : Option ℕ)
+    → (if not a then None else if not b then None else known_number count number) ≡ Some n → n ≤ count + 1
 within-if count n true true number e = within-known count n number e
 within-if count n true false number e = absurd (cc)
 within-if count n false b number e = absurd (cc)
 
 number-within : (count n : ℕ) (payload : List ℕ) → login_number count payload ≡ Some n → n ≤ count + 1
-number-within count n payload e = within-if count n (length payload == 46) (is_session_here (take 10 (drop 16 payload))) (number_asked (drop 26 payload)) e
+number-within count n payload e = within-if count n (length payload == 46) (is_session_here (take 10 (drop 16 payload)))
+    (number_asked (drop 26 payload)) e
 
 module _ (r : SimRun) (served : IsServed r) (packet : Packet) (read : Option Inbound) (choice : Choice) where
   abbrev s : SimState
@@ -82,7 +87,9 @@ module _ (r : SimRun) (served : IsServed r) (packet : Packet) (read : Option Inb
   abbrev asks : Option ℕ
   asks = login_number (length s.kept) packet.payload
 
-  by_login : (is_login : Bool) (number : Option ℕ) → asks ≡ number → IsServed (goes_on (if is_login then number else None) r (if is_login then answers_login s number else sends_nothing s))
+  by_login : (is_login : Bool) (number : Option ℕ) → asks ≡ number
+      → IsServed (goes_on (if is_login then number else None) r
+      (if is_login then answers_login s number else sends_nothing s))
   by_login true None e = quiet-served r (rejects_login ∷ []) refl served
   by_login true (Some n) e = record {
     sent = λ on. sequenced-payloads (drop (n - 1) s.kept);
@@ -92,9 +99,13 @@ module _ (r : SimRun) (served : IsServed r) (packet : Packet) (read : Option Inb
 
   by_read : (m : Option Inbound) → IsServed (goes_on None r (hears s m choice))
   by_read None = quiet-served r [] refl served
-  by_read (Some message) = kept-served r (record s { book = (inbound s.book message choice).machine }) (map outbound_bytes (inbound s.book message choice).says) refl refl served
+  by_read (Some message) = kept-served r (record s { book = (inbound s.book message choice).machine })
+      (map outbound_bytes (inbound s.book message choice).says) refl refl served
 
-  by_kind : (says asks_back leaves : Bool) → IsServed (goes_on None r (if says then hears s read choice else if asks_back then record { state = s; packets = server_heartbeat ∷ [] } else if leaves then sends_nothing (record s { link = NoLink }) else sends_nothing s))
+  by_kind : (says asks_back leaves : Bool) → IsServed
+      (goes_on None r (if says then hears s read choice else if asks_back then record
+      { state = s; packets = server_heartbeat ∷ [] } else if leaves then sends_nothing
+      (record s { link = NoLink }) else sends_nothing s))
   by_kind true b c = by_read read
   by_kind false true c = quiet-served r (server_heartbeat ∷ []) refl served
   by_kind false false true = unlinked-served r NoLink [] no-link
@@ -109,7 +120,8 @@ move-served : (move : SimMove) (r : SimRun) → IsServed r → IsServed (sim_mov
 move-served (Comes events.Up read) r served = unlinked-served r Connected [] no-connected
 move-served (Comes (events.Packet packet choice) read) r served = by_link r served packet read choice r.state.link
 move-served (Comes (events.Act choice) read) r served =
-    kept-served r (record r.state { book = (act r.state.book choice).machine }) (map outbound_bytes (act r.state.book choice).says) refl refl served
+    kept-served r (record r.state { book = (act r.state.book choice).machine })
+    (map outbound_bytes (act r.state.book choice).says) refl refl served
 move-served (Comes events.Gone read) r served = unlinked-served r NoLink [] no-link
 move-served (Says payload) r served = kept-served r r.state (payload ∷ []) refl refl served
 

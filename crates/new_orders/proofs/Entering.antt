@@ -46,24 +46,44 @@ module _ (s : TableState) (order_ids exec_ids : ℕ) (sender : Sender) (held : H
   -- a state judges it as its table does
   pub verdict-in : verdict_in s client (port_seen sender.port) m ≡ verdict_of sender held used d
   verdict-in =
-      ap (λ (u : Bool). first_row (rows_of_new u (port_seen sender.port) (open_count s.orders client) (length s.tokens) m)) after.stands.used
-      ∙ ap (λ (os : List OrderRecord). first_row (rows_of_new used (port_seen sender.port) (open_count os client) (length s.tokens) m)) same_orders
-      ∙ ap (λ (ts : List GivenToken). first_row (rows_of_new used (port_seen sender.port) (open_count held.orders client) (length ts) m)) same_tokens
+      ap (λ (u : Bool). first_row (rows_of_new u (port_seen sender.port) (open_count s.orders client)
+      (length s.tokens) m)) after.stands.used
+      ∙ ap (λ (os : List OrderRecord). first_row
+      (rows_of_new used (port_seen sender.port) (open_count os client) (length s.tokens) m)) same_orders
+      ∙ ap (λ (ts : List GivenToken). first_row
+      (rows_of_new used (port_seen sender.port) (open_count held.orders client) (length ts) m)) same_tokens
 
   -- a row refuses it
-  pub refused-in : (row : Refusal) (body : AppBody) → verdict_of sender held used d ≡ refused_by row → body_fields body ≡ law.refusing_report (exec_ids + 1) (order_ids + 1) m (code_of row) (refusal_text row)
-      → client_step s client m (port_seen sender.port) ≡ tells (numbered_on client m s) client (body_fields body ∷ []) []
+  pub refused-in : (row : Refusal) (body : AppBody) → verdict_of sender held used d ≡ refused_by row
+      → body_fields body ≡ law.refusing_report (exec_ids + 1) (order_ids + 1) m (code_of row) (refusal_text row)
+      → client_step s client m (port_seen sender.port)
+      ≡ tells (numbered_on client m s) client (body_fields body ∷ []) []
   refused-in row body verdict is_body =
       ap (by_verdict s client m) (verdict-in ∙ verdict)
-      ∙ ap (λ (n : ℕ). tells (numbered_on client m s) client (law.refusing_report (n + 1) (s.order_ids + 1) m (code_of row) (refusal_text row) ∷ []) []) after.stands.reports
-      ∙ ap (λ (n : ℕ). tells (numbered_on client m s) client (law.refusing_report (exec_ids + 1) (n + 1) m (code_of row) (refusal_text row) ∷ []) []) after.numbered
+      ∙ ap (λ (n : ℕ). tells (numbered_on client m s) client
+      (law.refusing_report (n + 1) (s.order_ids + 1) m (code_of row) (refusal_text row) ∷ []) [])
+      after.stands.reports
+      ∙ ap (λ (n : ℕ). tells (numbered_on client m s) client
+      (law.refusing_report (exec_ids + 1) (n + 1) m (code_of row) (refusal_text row) ∷ []) []) after.numbered
       ∙ ap (λ (b : Message). tells (numbered_on client m s) client (b ∷ []) []) (sym is_body)
 
   -- as what it is accepted
   same-entry : entry_of_new s client m ≡ entry_after (order_ids + 1) sender held d
   same-entry =
-      ap (λ (n : ℕ). record { client = client; message = m; order = decimal (n + 1); token = Some (length s.tokens + 1) }) after.numbered
-      ∙ ap (λ (ts : List GivenToken). record { client = client; message = m; order = decimal (order_ids + 1); token = Some (length ts + 1) }) same_tokens
+      ap (λ (n : ℕ). record {
+        client = client;
+        message = m;
+        order = decimal (n + 1);
+        token =
+            Some (length s.tokens + 1);
+      }) after.numbered
+      ∙ ap (λ (ts : List GivenToken). record {
+        client = client;
+        message = m;
+        order = decimal (order_ids + 1);
+        token =
+            Some (length ts + 1);
+      }) same_tokens
 
   -- the token that it is given
   abbrev given_to : ℕ → List ℕ → ℕ → GivenToken
@@ -72,24 +92,34 @@ module _ (s : TableState) (order_ids exec_ids : ℕ) (sender : Sender) (held : H
   port-is : (terms_of s.terms client).port ≡ sender.terms.port
   port-is = ap (λ (t : Terms). t.port) after.stands.terms
 
-  same-given : given_to (terms_of s.terms client).port (token_text (length s.tokens + 1)) (s.order_ids + 1) ≡ given_to sender.terms.port (token_text (length held.tokens + 1)) (order_ids + 1)
+  same-given : given_to (terms_of s.terms client).port (token_text (length s.tokens + 1)) (s.order_ids + 1)
+      ≡ given_to sender.terms.port (token_text (length held.tokens + 1)) (order_ids + 1)
   same-given =
       ap (λ (n : ℕ). given_to n (token_text (length s.tokens + 1)) (s.order_ids + 1)) port-is
-      ∙ ap (λ (ts : List GivenToken). given_to sender.terms.port (token_text (length ts + 1)) (s.order_ids + 1)) same_tokens
+      ∙ ap (λ (ts : List GivenToken). given_to sender.terms.port (token_text (length ts + 1)) (s.order_ids + 1))
+      same_tokens
       ∙ ap (λ (n : ℕ). given_to sender.terms.port (token_text (length held.tokens + 1)) (n + 1)) after.numbered
 
   -- it is accepted
-  accepted-gives : (o : OrderRecord) (given : GivenToken) (b : Message) → verdict_in s client (port_seen sender.port) m ≡ Accepted
-      → o ≡ entered (entry_of_new s client m) → given ≡ given_to (terms_of s.terms client).port (token_text (length s.tokens + 1)) (s.order_ids + 1)
+  accepted-gives : (o : OrderRecord) (given : GivenToken) (b : Message)
+      → verdict_in s client (port_seen sender.port) m ≡ Accepted
+      → o ≡ entered (entry_of_new s client m) → given
+      ≡ given_to (terms_of s.terms client).port (token_text (length s.tokens + 1)) (s.order_ids + 1)
       → b ≡ law.report (s.exec_ids + 1) (law.plain (codes "A")) (shown_as (entered (entry_of_new s client m)))
-      → client_step s client m (port_seen sender.port) ≡ tells (with_order (used_by client m) o given s) client (b ∷ []) (new_asked s.terms (entry_of_new s client m) Waiting)
+      → client_step s client m (port_seen sender.port)
+      ≡ tells (with_order (used_by client m) o given s) client (b ∷ [])
+      (new_asked s.terms (entry_of_new s client m) Waiting)
   accepted-gives o given b verdict is_order is_given is_body =
       ap (by_verdict s client m) verdict ∙ rw (is_order, is_given, is_body) refl
 
-  pub entering-in : (enter : EnterOrder) (o : OrderRecord) (given : GivenToken) (bodies : List AppBody) (asks : List Inbound) → verdict_in s client (port_seen sender.port) m ≡ Accepted
-      → AsksNext sender held d enter → o ≡ entered (entry_after (order_ids + 1) sender held d) → given ≡ given_to sender.terms.port enter.token (order_ids + 1)
+  pub entering-in : (enter : EnterOrder) (o : OrderRecord) (given : GivenToken) (bodies : List AppBody)
+      (asks : List Inbound) → verdict_in s client (port_seen sender.port) m ≡ Accepted
+      → AsksNext sender held d enter → o ≡ entered (entry_after (order_ids + 1) sender held d)
+      → given ≡ given_to sender.terms.port enter.token (order_ids + 1)
       → map body_fields bodies ≡ law.report (exec_ids + 1) (law.plain (codes "A")) (shown_as o) ∷ []
-      → ((standing : Standing) (order_of : List ℕ → Option ℕ) (asked : Asked) → Says standing order_of asked (enter_bytes enter) → EachWith (Says standing order_of) (asked ∷ []) (map inbound_bytes asks))
+      → ((standing : Standing) (order_of : List ℕ → Option ℕ) (asked : Asked)
+      → Says standing order_of asked (enter_bytes enter)
+      → EachWith (Says standing order_of) (asked ∷ []) (map inbound_bytes asks))
       → length asks ≤ 5
       → IsEntering s sender m (order_ids + 1) o given bodies asks
   entering-in enter o given bodies asks verdict next is_order is_given is_told says few =
@@ -102,15 +132,23 @@ module _ (s : TableState) (order_ids exec_ids : ℕ) (sender : Sender) (held : H
             (is_given ∙ ap (λ (t : List ℕ). given_to sender.terms.port t (order_ids + 1)) next.token ∙ sym same-given)
             (ap (λ (x : OrderRecord). law.report (exec_ids + 1) (law.plain (codes "A")) (shown_as x)) of_state
             ∙ ap (λ (n : ℕ). law.report (n + 1) (law.plain (codes "A")) (shown_as (entered (entry_of_new s client m)))) (sym after.stands.reports))
-            ∙ ap (λ (bs : List Message). tells (with_order (used_by client m) o given s) client bs (new_asked s.terms (entry_of_new s client m) Waiting)) (sym is_told);
+            ∙ ap (λ (bs : List Message). tells (with_order (used_by client m) o given s) client bs
+            (new_asked s.terms (entry_of_new s client m) Waiting)) (sym is_told);
         says = λ order_of finds. says (terms_of s.terms client).standing order_of _ (next-says order_of);
         few = few;
         one_token = subst (λ (x : OrderRecord). length x.tokens ≤ 1) (sym is_order) (omega arith);
         none_pending = ap (λ (x : OrderRecord). x.replaces) is_order;
       }
     where
-      next-says : (order_of : List ℕ → Option ℕ) → Says (terms_of s.terms client).standing order_of (asked_with (decimal (s.order_ids + 1)) (token_text (length s.tokens + 1)) (terms_of s.terms client).capacity m) (enter_bytes enter)
+      next-says : (order_of : List ℕ → Option ℕ)
+          → Says (terms_of s.terms client).standing order_of
+          (asked_with (decimal (s.order_ids + 1)) (token_text (length s.tokens + 1))
+          (terms_of s.terms client).capacity m) (enter_bytes enter)
       next-says order_of =
-          subst (λ (t : Terms). Says t.standing order_of (asked_with (decimal (s.order_ids + 1)) (token_text (length s.tokens + 1)) t.capacity m) (enter_bytes enter)) (sym after.stands.terms)
-          (subst (λ (ts : List GivenToken). Says (terms_seen sender.terms).standing order_of (asked_with (decimal (s.order_ids + 1)) (token_text (length ts + 1)) (terms_seen sender.terms).capacity m) (enter_bytes enter)) (sym same_tokens)
+          subst (λ (t : Terms). Says t.standing order_of
+          (asked_with (decimal (s.order_ids + 1)) (token_text (length s.tokens + 1)) t.capacity m)
+          (enter_bytes enter)) (sym after.stands.terms)
+          (subst (λ (ts : List GivenToken). Says (terms_seen sender.terms).standing order_of
+          (asked_with (decimal (s.order_ids + 1)) (token_text (length ts + 1)) (terms_seen sender.terms).capacity m)
+          (enter_bytes enter)) (sym same_tokens)
           (next.says (decimal (s.order_ids + 1)) order_of))

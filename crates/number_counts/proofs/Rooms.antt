@@ -22,10 +22,13 @@ one-of false h = absurd (omega (arith, h))
 
 pub room-for : (a b c : ℕ) → 1 ≤ a → 1 ≤ b → 1 ≤ c → 1 ≤ room_of_count a b c
 room-for a b c x y z =
-    one-for (nat_le 1 a && (nat_le 1 b && nat_le 1 c)) (both (nat_le 1 a) (nat_le 1 b && nat_le 1 c) (within 1 a x) (both (nat_le 1 b) (nat_le 1 c) (within 1 b y) (within 1 c z)))
+    one-for (nat_le 1 a && (nat_le 1 b && nat_le 1 c))
+    (both (nat_le 1 a) (nat_le 1 b && nat_le 1 c) (within 1 a x)
+    (both (nat_le 1 b) (nat_le 1 c) (within 1 b y) (within 1 c z)))
 
 pub room-in : (a b c : ℕ) → 1 ≤ room_of_count a b c → (1 ≤ a) × (1 ≤ b) × (1 ≤ c)
 room-in a b c h =
-    let parts = and_parts (nat_le 1 a) (nat_le 1 b && nat_le 1 c) (one-of (nat_le 1 a && (nat_le 1 b && nat_le 1 c)) h) in
+    let parts = and_parts (nat_le 1 a) (nat_le 1 b && nat_le 1 c) (one-of (nat_le 1 a && (nat_le 1 b && nat_le 1 c)) h)
+    in
     let rest = and_parts (nat_le 1 b) (nat_le 1 c) parts.1 in
     (leb-true 1 a parts.0, leb-true 1 b rest.0, leb-true 1 c rest.1)

@@ -30,7 +30,9 @@ use Rattle.order_ledger.specs.Meets.{ChangesAny, ChangesOrder, GivesMarket}
 use Rattle.order_ledger.specs.Seen.{client_seen, tells_report}
 
 -- where nothing comes of it
-pub silent-meets : (old : TableState) (port : ℕ) (m : Result Outbound DecodeRefusal) (turn : MarketTurn) → turn.client ≡ None → turn.bodies.items ≡ [] → market_step old port m ≡ silent old → GivesMarket (market_step old port m) turn old
+pub silent-meets : (old : TableState) (port : ℕ) (m : Result Outbound DecodeRefusal) (turn : MarketTurn)
+    → turn.client ≡ None → turn.bodies.items ≡ [] → market_step old port m ≡ silent old
+    → GivesMarket (market_step old port m) turn old
 silent-meets old port m turn nobody nothing is = record {
   state = ap (λ (g : GivenByEvent). g.state) (sym is);
   client = ap client_seen nobody ∙ ap (λ (g : GivenByEvent). g.client) (sym is);
@@ -38,24 +40,52 @@ silent-meets old port m turn nobody nothing is = record {
   fault = ap (λ (g : GivenByEvent). g.fault) is;
 }
 
-pub silent-changes : (old : TableState) (port : ℕ) (m : Result Outbound DecodeRefusal) (changed : Option ChangedOrder) → changed ≡ None → market_step old port m ≡ silent old → ChangesAny old port m changed
-silent-changes old port m changed nothing is = subst (λ (x : Option ChangedOrder). ChangesAny old port m x) (sym nothing) (ap (λ (g : GivenByEvent). g.state) is)
+pub silent-changes : (old : TableState) (port : ℕ) (m : Result Outbound DecodeRefusal) (changed : Option ChangedOrder)
+    → changed ≡ None → market_step old port m ≡ silent old → ChangesAny old port m changed
+silent-changes old port m changed nothing is =
+    subst (λ (x : Option ChangedOrder). ChangesAny old port m x) (sym nothing) (ap (λ (g : GivenByEvent). g.state) is)
 
 -- two of the bodies that are told are reports at most
-pub told-few : (s : TableState) (port : ℕ) (m : Result Outbound DecodeRefusal) (order_id client : ℕ) (next : List (List ℕ)) (h : Heard) → OrderIsTold s port m order_id client next h
+pub told-few : (s : TableState) (port : ℕ) (m : Result Outbound DecodeRefusal) (order_id client : ℕ)
+    (next : List (List ℕ)) (h : Heard) → OrderIsTold s port m order_id client next h
     → count_by is_report (map body_fields h.bodies.items) ≤ 2
-told-few s port m order_id client next h told = subst (λ (bodies : List Message). count_by is_report bodies ≤ 2) (ap (λ (g : GivenByEvent). g.bodies) told.gives) (few-reports s port m)
+told-few s port m order_id client next h told =
+    subst (λ (bodies : List Message). count_by is_report bodies ≤ 2) (ap (λ (g : GivenByEvent). g.bodies) told.gives)
+    (few-reports s port m)
 
 -- where an order is changed, and its client told
 module _ (old : TableState) (port : ℕ) (m : Result Outbound DecodeRefusal) (order_id client : ℕ) (next : List (List ℕ)) (h : Heard) (turn : MarketTurn) (told : OrderIsTold old port m order_id client next h) (was held : Held) (same_orders : was.orders ≡ old.orders) (same_tokens : was.tokens ≡ old.tokens) where
-  pub told-meets : ((o : OrderRecord) → by_number old (decimal order_id) ≡ Some o → held ≡ record was { orders = put (changed_by h.change o) was.orders })
-      → client_seen turn.client ≡ (told_of_entry told.order.new (map body_fields h.bodies.items)).client → turn.bodies.items ≡ h.bodies.items
-      → GivesMarket (market_step old port m) turn (record old { orders = held.orders; tokens = held.tokens; exec_ids = old.exec_ids + count_by is_report (map body_fields h.bodies.items) })
+  pub told-meets : ((o : OrderRecord) → by_number old (decimal order_id) ≡ Some o
+      → held ≡ record was { orders = put (changed_by h.change o) was.orders })
+      → client_seen turn.client ≡ (told_of_entry told.order.new (map body_fields h.bodies.items)).client
+      → turn.bodies.items ≡ h.bodies.items
+      → GivesMarket (market_step old port m) turn
+      (record old {
+        orders = held.orders;
+        tokens = held.tokens;
+        exec_ids =
+            old.exec_ids + count_by is_report (map body_fields h.bodies.items);
+      })
   told-meets changed of_client same = record {
     state =
-        ap (λ (x : Held). record old { orders = x.orders; tokens = x.tokens; exec_ids = old.exec_ids + count_by is_report (map body_fields h.bodies.items) }) (changed told.order told.found)
-        ∙ ap (λ (os : List OrderRecord). record old { orders = put (changed_by h.change told.order) os; tokens = was.tokens; exec_ids = old.exec_ids + count_by is_report (map body_fields h.bodies.items) }) same_orders
-        ∙ ap (λ (ts : List GivenToken). record old { orders = put (changed_by h.change told.order) old.orders; tokens = ts; exec_ids = old.exec_ids + count_by is_report (map body_fields h.bodies.items) }) same_tokens
+        ap (λ (x : Held). record old {
+          orders = x.orders;
+          tokens = x.tokens;
+          exec_ids =
+              old.exec_ids + count_by is_report (map body_fields h.bodies.items);
+        }) (changed told.order told.found)
+        ∙ ap (λ (os : List OrderRecord). record old {
+          orders = put (changed_by h.change told.order) os;
+          tokens = was.tokens;
+          exec_ids =
+              old.exec_ids + count_by is_report (map body_fields h.bodies.items);
+        }) same_orders
+        ∙ ap (λ (ts : List GivenToken). record old {
+          orders = put (changed_by h.change told.order) old.orders;
+          tokens = ts;
+          exec_ids =
+              old.exec_ids + count_by is_report (map body_fields h.bodies.items);
+        }) same_tokens
         ∙ ap (λ (g : GivenByEvent). g.state) (sym told.gives);
     client = of_client ∙ ap (λ (g : GivenByEvent). g.client) (sym told.gives);
     bodies = ap (map body_fields) same ∙ ap (λ (g : GivenByEvent). g.bodies) (sym told.gives);
@@ -64,12 +94,15 @@ module _ (old : TableState) (port : ℕ) (m : Result Outbound DecodeRefusal) (or
 
   -- and it is the one that is changed
   pub told-changes : (closed : Bool)
-      → ((o : OrderRecord) → by_number old (decimal order_id) ≡ Some o → closed ≡ is_closed (changed_by h.change o).stage)
+      → ((o : OrderRecord) → by_number old (decimal order_id) ≡ Some o
+      → closed ≡ is_closed (changed_by h.change o).stage)
       → ChangesOrder old port m (record { order_id = order_id; is_closed = closed; next = next })
   told-changes closed closes =
       let now = changed_by h.change told.order in
       let same : now.new ≡ told.order.new = change-new h.change told.order in
-      let of_order : told.order.new.order ≡ decimal order_id = eq-is told.order.new.order (decimal order_id) (found-passes (has_number (decimal order_id)) old.orders told.order told.found) in
+      let of_order : told.order.new.order ≡ decimal order_id =
+      eq-is told.order.new.order (decimal order_id)
+      (found-passes (has_number (decimal order_id)) old.orders told.order told.found) in
       let number : now.new.order ≡ decimal order_id = ap (λ (e : Entry). e.order) same ∙ of_order in
       record {
         order = told.order;

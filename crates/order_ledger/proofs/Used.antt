@@ -1,5 +1,6 @@
 -- Used ids are led to by their keys; room in a list and in its index.
-use Rattle.std.proofs.Common.{◌≡◌, ◌≤◌, ℕ, Bool, true, false, List, refl, sym, arith, subst, eqb-true, leb-true, true≢false}
+use Rattle.std.proofs.Common.{◌≡◌, ◌≤◌, ℕ, Bool, true, false, List, refl, sym, arith, subst, eqb-true, leb-true}
+use Rattle.std.proofs.Common.{true≢false}
 use Rattle.std.specs.Prelude.{◌&&◌, ◌==◌, nat_le, bytes_eq, if◌then◌else◌}
 use Rattle.std.proofs.lemmas.Bool.{and_parts}
 use Rattle.std.proofs.lemmas.Bool.Decides.{nat_tests}
@@ -32,10 +33,14 @@ room-in a b h =
     one true e = refl
     one false e = absurd (omega (arith, e))
 
-pub used-key : (client : ℕ) (id : List ℕ) (u : UsedId) → is_same_id client id u ≡ true → has_used_key (text_key client id) u ≡ true
+pub used-key : (client : ℕ) (id : List ℕ) (u : UsedId) → is_same_id client id u ≡ true
+    → has_used_key (text_key client id) u ≡ true
 used-key client id u t =
     let parts = and_parts (u.client == client) (bytes_eq u.id id) t in
     key-of-same client u.client id u.id (sym (eqb-true u.client client parts.0)) (sym (eq-is u.id id parts.1))
 
-pub used-leads : (h : Hints TextKey) (u : UsedId) (place : ℕ) → LeadsTo (hint_of same_key h (text_key u.client u.id)) place → (k : TextKey) → has_used_key k u ≡ true → LeadsTo (hint_of same_key h k) place
-used-leads h u place led k t = subst (λ (q : TextKey). LeadsTo (hint_of same_key h q) place) (sym (same-is k (text_key u.client u.id) t)) led
+pub used-leads : (h : Hints TextKey) (u : UsedId) (place : ℕ)
+    → LeadsTo (hint_of same_key h (text_key u.client u.id)) place → (k : TextKey) → has_used_key k u ≡ true
+    → LeadsTo (hint_of same_key h k) place
+used-leads h u place led k t = subst (λ (q : TextKey). LeadsTo (hint_of same_key h q) place)
+    (sym (same-is k (text_key u.client u.id) t)) led

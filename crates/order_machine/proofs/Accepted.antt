@@ -13,7 +13,8 @@ use Rattle.order_law.specs.Told.{Occasion, Shown, cancelled, priced, plain, repo
 use Rattle.order_law.specs.Told as told
 use Rattle.order_law.specs.Headline.{has_due_ids}
 use Rattle.order_machine.specs.OrderRecord.{Cancelling, OrderRecord, asked_as, cancel_asked, chained, fill_of, gone}
-use Rattle.order_machine.specs.OrderRecord.{unanswered_tokens, live_token, pending, record_life, put_in_book, replacements}
+use Rattle.order_machine.specs.OrderRecord.{unanswered_tokens, live_token, pending, record_life, put_in_book}
+use Rattle.order_machine.specs.OrderRecord.{replacements}
 use Rattle.order_machine.specs.OrderRecord.{shown_as, still_cancelling, unasked, with_tokens}
 use Rattle.order_machine.proofs.Texts.{eq-same}
 use Rattle.order_machine.proofs.Due.{IsSound, Reads}
@@ -27,7 +28,9 @@ use Rattle.order_machine.proofs.Executed.{AreNumbered-more}
 use Rattle.order_machine.proofs.Canceled.{over-keeps}
 
 -- with the same tokens a pending cancel is as it was
-pub same-cancel : (c : Option Cancelling) (m : Outbound) (next : List (List ℕ)) → ((x : Cancelling) → c ≡ Some x → x.tokens ≢ []) → ((x : Cancelling) → c ≡ Some x → unanswered_tokens m next x.tokens ≡ x.tokens) → still_cancelling m next c ≡ c
+pub same-cancel : (c : Option Cancelling) (m : Outbound) (next : List (List ℕ))
+    → ((x : Cancelling) → c ≡ Some x → x.tokens ≢ [])
+    → ((x : Cancelling) → c ≡ Some x → unanswered_tokens m next x.tokens ≡ x.tokens) → still_cancelling m next c ≡ c
 same-cancel None m next left same = refl
 same-cancel (Some c) m next left same = rw (same c refl) (by_tokens c.tokens refl (left c refl))
   where
@@ -35,7 +38,8 @@ same-cancel (Some c) m next left same = rw (same c refl) (by_tokens c.tokens ref
     by_tokens [] e some = absurd (some e)
     by_tokens (token ∷ tokens) e some = ap (λ ts. Some (record { request = c.request; tokens = ts })) (sym e)
 
-module _ (P : List ℕ → Type 0) (Q : Entry → Type 0) (R : List ℕ → Type 0) (terms : List Terms) (old_id : List ℕ → List ℕ) (sent : List Message) (reports limit more : ℕ) (m : Accepted) (o : OrderRecord)
+module _ (P : List ℕ → Type 0) (Q : Entry → Type 0) (R : List ℕ → Type 0) (terms : List Terms)
+    (old_id : List ℕ → List ℕ) (sent : List Message) (reports limit more : ℕ) (m : Accepted) (o : OrderRecord)
     (live : is_live (record_life o) m.token ≡ true) (waits : o.stage ≡ Waiting)
     (shares : m.shares ≤ more) (more_small : more < 10 ^ 63) (limit_small : limit < 10 ^ 63)
     (keeps : Keeps reports limit o) (named : AreNamed old_id (pending o)) (reads : Reads sent o) where
@@ -57,7 +61,8 @@ module _ (P : List ℕ → Type 0) (Q : Entry → Type 0) (R : List ℕ → Type
 
   new-tells : Tells old_id sent (report (reports + 1) (plain (codes "0")) (shown_as p)) p (pending p)
   new-tells = report-tells (reports + 1) (plain (codes "0")) p (pending p) old_id sent sound
-      (new-Reads (reports + 1) m.shares m.price o sent waits live_order (omega (arith, shares, more_small)) (omega (arith, keeps.small, shares, more_small, limit_small)) reads) new-ids
+      (new-Reads (reports + 1) m.shares m.price o sent waits live_order (omega (arith, shares, more_small))
+      (omega (arith, keeps.small, shares, more_small, limit_small)) reads) new-ids
 
   own : bytes_eq m.token (token_of o.new) ≡ true
   own = subst (λ (ts : List (List ℕ)). bytes_eq m.token (first_token ts) ≡ true) (keeps.first waits) live
@@ -78,15 +83,25 @@ module _ (P : List ℕ → Type 0) (Q : Entry → Type 0) (R : List ℕ → Type
   dead-lives dead = rw (live, waits, dead) refl
 
   live-asked : unanswered (market.Accepted m) (replacements o.replaces) (asked_as terms o) ≡ asked_as terms p
-  live-asked = asked-parts terms (market.Accepted m) (replacements o.replaces) o ∙ rw (same-cancel o.cancel (market.Accepted m) (replacements o.replaces) keeps.left (λ c is_c. filter-all c.tokens), waits, own)
-      (ap (λ (asks : List Asked). asks ++ cancel_asked o.new o.cancel) (replaces-kept (market.Accepted m) (replacements o.replaces) o.new (λ from to. refl) (live_token o) o.replaces))
+  live-asked = asked-parts terms (market.Accepted m) (replacements o.replaces) o
+      ∙ rw (
+        same-cancel o.cancel (market.Accepted m) (replacements o.replaces) keeps.left
+            (λ c is_c. filter-all c.tokens),
+        waits,
+        own,
+      )
+      (ap (λ (asks : List Asked). asks ++ cancel_asked o.new o.cancel)
+      (replaces-kept (market.Accepted m) (replacements o.replaces) o.new (λ from to. refl)
+      (live_token o) o.replaces))
 
-  pub live-moves : is_dead m.order_state ≡ false → Moves P Q R terms old_id sent reports limit more (market.Accepted m) o p
+  pub live-moves : is_dead m.order_state ≡ false
+      → Moves P Q R terms old_id sent reports limit more (market.Accepted m) o p
   live-moves alive = record {
     same = refl;
     kept = λ k. record { front = k.front; live = k.live; replaces = k.replaces; cancel = k.cancel; id = k.id };
     lives = live-lives alive;
-    leads = subst (λ (bodies : List Message). Leads o.new old_id sent bodies p (pending p)) (sym (live-bodies alive)) (leads-one old_id sent _ p (pending p) new-tells);
+    leads = subst (λ (bodies : List Message). Leads o.new old_id sent bodies p (pending p)) (sym (live-bodies alive))
+        (leads-one old_id sent _ p (pending p) new-tells);
     asked = λ e. live-asked;
     price = price_now;
     keeps = λ after later. record {
@@ -108,15 +123,19 @@ module _ (P : List ℕ → Type 0) (Q : Entry → Type 0) (R : List ℕ → Type
     };
   }
 
-  pub dead-moves : is_dead m.order_state ≡ true → Moves P Q R terms old_id sent reports limit more (market.Accepted m) o (unasked (gone p))
+  pub dead-moves : is_dead m.order_state ≡ true
+      → Moves P Q R terms old_id sent reports limit more (market.Accepted m) o (unasked (gone p))
   dead-moves dead = record {
     same = refl;
     kept = Of-unasked P Q R o (unasked (gone p)) refl refl refl refl;
     lives = dead-lives dead;
-    leads = subst (λ (bodies : List Message). Leads o.new old_id sent bodies (unasked (gone p)) []) (sym (dead-bodies dead))
+    leads = subst (λ (bodies : List Message). Leads o.new old_id sent bodies (unasked (gone p)) [])
+        (sym (dead-bodies dead))
         (leads-more old_id sent _ _ p (unasked (gone p)) (pending p) [] new-tells
-        (cancelled-leads old_id (reports + 2) None p refl sound _ o.replaces o.cancel keeps.sound.replaces keeps.sound.cancels keeps.apart keeps.current named new-tells.reads));
+        (cancelled-leads old_id (reports + 2) None p refl sound _ o.replaces o.cancel keeps.sound.replaces
+        keeps.sound.cancels keeps.apart keeps.current named new-tells.reads));
     asked = λ e. absurd (cc);
     price = price_now;
-    keeps = λ after later. over-keeps reports limit more after o (unasked (gone p)) (omega (arith, later)) refl refl refl refl keeps.rejected refl (omega (arith, keeps.small)) keeps.numbered;
+    keeps = λ after later. over-keeps reports limit more after o (unasked (gone p))
+        (omega (arith, later)) refl refl refl refl keeps.rejected refl (omega (arith, keeps.small)) keeps.numbered;
   }

@@ -38,14 +38,20 @@ pub record Stands (match_number reports : ℕ) (ts : List ToldTrade) : Type 0 wh
   pub exec_id : exec_id_of match_number (map trade_of ts) (map fill_of ts) ≡ Some (decimal told.number)
   pub fill : find (λ (f : Fill). bytes_eq f.exec_id (decimal told.number)) (map fill_of ts) ≡ Some (fill_of told)
 
-stands-in : (match_number reports : ℕ) (ts : List ToldTrade) → reports < 10 ^ 64 → AreNumbered reports ts → list_any (stands_as match_number) (map trade_of ts) ≡ true → Stands match_number reports ts
+stands-in : (match_number reports : ℕ) (ts : List ToldTrade) → reports < 10 ^ 64 → AreNumbered reports ts
+    → list_any (stands_as match_number) (map trade_of ts) ≡ true → Stands match_number reports ts
 stands-in match_number reports [] small numbered some = absurd (cc)
-stands-in match_number reports (t ∷ ts) small numbered some = by_test (stands_as match_number t.trade) refl some (λ e. stands-in match_number (t.number - 1) ts (omega (arith, numbered.1)) numbered.2 e)
+stands-in match_number reports (t ∷ ts) small numbered some =
+    by_test (stands_as match_number t.trade) refl some
+    (λ e. stands-in match_number (t.number - 1) ts (omega (arith, numbered.1)) numbered.2 e)
   where
     same : (k n : ℕ) (b : Bool) → ((k == n) && b) ≡ true → k ≡ n
     same k n b e = eqb-true k n (and-parts (k == n) b e).0
 
-    by_test : (b : Bool) → stands_as match_number t.trade ≡ b → (b || list_any (stands_as match_number) (map trade_of ts)) ≡ true → (list_any (stands_as match_number) (map trade_of ts) ≡ true → Stands match_number (t.number - 1) ts) → Stands match_number reports (t ∷ ts)
+    by_test : (b : Bool) → stands_as match_number t.trade ≡ b
+        → (b || list_any (stands_as match_number) (map trade_of ts)) ≡ true
+        → (list_any (stands_as match_number) (map trade_of ts) ≡ true → Stands match_number (t.number - 1) ts)
+        → Stands match_number reports (t ∷ ts)
     by_test true it_stands e later =
         let own = eq-same (decimal t.number) in
         record {
@@ -59,7 +65,9 @@ stands-in match_number reports (t ∷ ts) small numbered some = by_test (stands_
         }
     by_test false off e later =
         let rest = later e in
-        let other : bytes_eq (decimal t.number) (decimal rest.told.number) ≡ false = eq-decimal_other t.number rest.told.number (λ alike. (omega (arith, alike, rest.number, numbered.0))) (omega (arith, numbered.1)) (omega (arith, rest.number, numbered.1)) in
+        let other : bytes_eq (decimal t.number) (decimal rest.told.number) ≡ false =
+        eq-decimal_other t.number rest.told.number (λ alike. (omega (arith, alike, rest.number, numbered.0)))
+        (omega (arith, numbered.1)) (omega (arith, rest.number, numbered.1)) in
         record {
           told = rest.told;
           same_match = rest.same_match;
@@ -71,24 +79,32 @@ stands-in match_number reports (t ∷ ts) small numbered some = by_test (stands_
         }
 
 -- marks on trades are marks on what was told of them
-marks-same : (match_number : ℕ) (ts : List ToldTrade) → map (marked match_number) (map trade_of ts) ≡ map trade_of (map (mark match_number) ts)
+marks-same : (match_number : ℕ) (ts : List ToldTrade)
+    → map (marked match_number) (map trade_of ts) ≡ map trade_of (map (mark match_number) ts)
 marks-same match_number [] = refl
 marks-same match_number (t ∷ ts) = ap (λ xs. marked match_number t.trade ∷ xs) (marks-same match_number ts)
 
-AreNumbered-marked : (match_number reports : ℕ) (ts : List ToldTrade) → AreNumbered reports ts → AreNumbered reports (map (mark match_number) ts)
+AreNumbered-marked : (match_number reports : ℕ) (ts : List ToldTrade) → AreNumbered reports ts
+    → AreNumbered reports (map (mark match_number) ts)
 AreNumbered-marked match_number reports [] a = tt
 AreNumbered-marked match_number reports (t ∷ ts) a = (a.0, a.1, AreNumbered-marked match_number (t.number - 1) ts a.2)
 
-none-stands : (match_number : ℕ) (ts : List ToldTrade) → ts ≡ [] → list_any (stands_as match_number) (map trade_of ts) ≡ true → ⊥
-none-stands match_number ts none some = let x : list_any (stands_as match_number) (map trade_of []) ≡ true = subst (λ (xs : List ToldTrade). list_any (stands_as match_number) (map trade_of xs) ≡ true) none some in cc
+none-stands : (match_number : ℕ) (ts : List ToldTrade) → ts ≡ []
+    → list_any (stands_as match_number) (map trade_of ts) ≡ true → ⊥
+none-stands match_number ts none some = let x : list_any (stands_as match_number) (map trade_of []) ≡ true =
+    subst (λ (xs : List ToldTrade). list_any (stands_as match_number) (map trade_of xs) ≡ true) none some in cc
 
-shown-broken : (t : ToldTrade) (o : OrderRecord) (s : Stage) → o.stage ≡ s → is_waiting s ≡ false → (o.stage ≡ Closed → o.unfilled ≡ 0) → Rattle.order_law.specs.Told.lived (record_life (with_trade_broken t o)) (shown_as o) ≡ shown_as (with_trade_broken t o)
+shown-broken : (t : ToldTrade) (o : OrderRecord) (s : Stage) → o.stage ≡ s → is_waiting s ≡ false
+    → (o.stage ≡ Closed → o.unfilled ≡ 0) → Rattle.order_law.specs.Told.lived (record_life (with_trade_broken t o))
+    (shown_as o) ≡ shown_as (with_trade_broken t o)
 shown-broken t o Waiting e off none = absurd (cc)
 shown-broken t o Working e off none = rw e refl
 shown-broken t o Closed e off none = let left = none e in rw (e, left) refl
 
-module _ (P : List ℕ → Type 0) (Q : Entry → Type 0) (R : List ℕ → Type 0) (terms : List Terms) (old_id : List ℕ → List ℕ) (sent : List Message) (reports limit more : ℕ) (m : Broken) (o : OrderRecord)
-    (own : is_of (record_life o) m.token ≡ true) (stands : list_any (stands_as m.match_number) (record_life o).trades ≡ true)
+module _ (P : List ℕ → Type 0) (Q : Entry → Type 0) (R : List ℕ → Type 0) (terms : List Terms)
+    (old_id : List ℕ → List ℕ) (sent : List Message) (reports limit more : ℕ) (m : Broken) (o : OrderRecord)
+    (own : is_of (record_life o) m.token ≡ true)
+    (stands : list_any (stands_as m.match_number) (record_life o).trades ≡ true)
     (reports_small : reports < 10 ^ 64) (limit_small : limit < 10 ^ 63)
     (keeps : Keeps reports limit o) (named : AreNamed old_id (pending o)) (reads : Reads sent o) where
   pub found : Stands m.match_number reports o.trades
@@ -130,13 +146,20 @@ module _ (P : List ℕ → Type 0) (Q : Entry → Type 0) (R : List ℕ → Type
       let marks = marks-same m.match_number o.trades in
       rw (own, first, marks, same) refl
 
-  broken-bodies : told_by reports (market.Broken m) (record_life o) (answers_last (market.Broken m) (replacements o.replaces) (asked_as terms o)) (map fill_of o.trades) (shown_as o) ≡ report (reports + 1) (broken_occasion t reason) (shown_as p) ∷ []
+  broken-bodies : told_by reports (market.Broken m) (record_life o)
+      (answers_last (market.Broken m) (replacements o.replaces) (asked_as terms o)) (map fill_of o.trades) (shown_as o)
+      ≡ report (reports + 1) (broken_occasion t reason) (shown_as p) ∷ []
   broken-bodies =
       let exec = found.exec_id in
-      let first : told_by reports (market.Broken m) (record_life o) (answers_last (market.Broken m) (replacements o.replaces) (asked_as terms o)) (map fill_of o.trades) (shown_as o) ≡ report (reports + 1) (broken_occasion t reason) (Rattle.order_law.specs.Told.lived (record_life p) (shown_as o)) ∷ [] = rw (broken-lives, exec) refl in
-      first ∙ ap (λ (s : Shown). report (reports + 1) (broken_occasion t reason) s ∷ []) (shown-broken t o o.stage refl accepted keeps.none_closed)
+      let first : told_by reports (market.Broken m) (record_life o)
+      (answers_last (market.Broken m) (replacements o.replaces) (asked_as terms o)) (map fill_of o.trades)
+      (shown_as o) ≡ report (reports + 1) (broken_occasion t reason)
+      (Rattle.order_law.specs.Told.lived (record_life p) (shown_as o)) ∷ [] = rw (broken-lives, exec) refl in
+      first ∙ ap (λ (s : Shown). report (reports + 1) (broken_occasion t reason) s ∷ [])
+      (shown-broken t o o.stage refl accepted keeps.none_closed)
 
-  broken-ids : has_due_ids (report (reports + 1) (broken_occasion t reason) (shown_as p)) (chain o.new.order sent) (chained p) old_id ≡ true
+  broken-ids : has_due_ids (report (reports + 1) (broken_occasion t reason) (shown_as p)) (chain o.new.order sent)
+      (chained p) old_id ≡ true
   broken-ids = let id = eq-same o.id in rw id refl
 
   pub broken-moves : Moves P Q R terms old_id sent reports limit more (market.Broken m) o p
@@ -145,8 +168,10 @@ module _ (P : List ℕ → Type 0) (Q : Entry → Type 0) (R : List ℕ → Type
     kept = λ k. record { front = k.front; live = k.live; replaces = k.replaces; cancel = k.cancel; id = k.id };
     lives = broken-lives;
     leads = subst (λ (bodies : List Message). Leads o.new old_id sent bodies p (pending p)) (sym broken-bodies)
-        (leads-one old_id sent _ p (pending p) (report-tells (reports + 1) (broken_occasion t reason) p (pending p) old_id sent (broken-sound t o accepted keeps.sound)
-        (broken-Reads (reports + 1) t reason o sent found.fill (omega (arith, keeps.small, limit_small)) live_order accepted reads) broken-ids));
+        (leads-one old_id sent _ p (pending p) (report-tells (reports + 1) (broken_occasion t reason) p
+        (pending p) old_id sent (broken-sound t o accepted keeps.sound)
+        (broken-Reads (reports + 1) t reason o sent found.fill
+        (omega (arith, keeps.small, limit_small)) live_order accepted reads) broken-ids));
     asked = λ e. unanswered-same terms (market.Broken m) (replacements o.replaces) o answers_none;
     price = refl;
     keeps = λ after later. record {
@@ -164,6 +189,7 @@ module _ (P : List ℕ → Type 0) (Q : Entry → Type 0) (R : List ℕ → Type
       none_waiting = λ e. absurd (let x : is_waiting Waiting ≡ false = ap is_waiting (sym e) ∙ accepted in cc);
       none_closed = keeps.none_closed;
       small = omega (arith, keeps.small);
-      numbered = AreNumbered-more reports after (map (mark t.trade.match_number) o.trades) (omega (arith, later)) (AreNumbered-marked t.trade.match_number reports o.trades keeps.numbered);
+      numbered = AreNumbered-more reports after (map (mark t.trade.match_number) o.trades) (omega (arith, later))
+          (AreNumbered-marked t.trade.match_number reports o.trades keeps.numbered);
     };
   }

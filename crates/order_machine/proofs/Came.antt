@@ -36,7 +36,8 @@ use Rattle.order_machine.proofs.Coming.{IsTold, coming_turn, numbered-came}
 
 -- ---- a new order that is refused
 
-module _ (terms : List Terms) (before : OrderHistory) (client : ℕ) (m : Message) (port : Port) (sends : List (List ℕ)) (H : Holds terms before) (short : length before < 2 ^ 59)
+module _ (terms : List Terms) (before : OrderHistory) (client : ℕ) (m : Message) (port : Port) (sends : List (List ℕ))
+    (H : Holds terms before) (short : length before < 2 ^ 59)
     (code : ℕ) (why : List ℕ) (v : verdict terms (issued client before) (accepted terms before) port m ≡ Refused code why) where
   abbrev r : Message
   r = refusing_report (reports_in before + 1) (orders_numbered before + 1) m code why
@@ -45,14 +46,21 @@ module _ (terms : List Terms) (before : OrderHistory) (client : ℕ) (m : Messag
   none-taken = rw v refl
 
   off : (k : List ℕ) (n : ℕ) → k ≡ decimal n → n ≤ orders_numbered before → is 37 k r ≡ false
-  off k n is_n few = rw is_n (eq-decimal_other (orders_numbered before + 1) n (λ same. (omega (arith, same, few))) (omega (arith, H.few)) (omega (arith, few, H.few)))
+  off k n is_n few = rw is_n (eq-decimal_other (orders_numbered before + 1) n (λ same. (omega (arith, same, few)))
+      (omega (arith, H.few)) (omega (arith, few, H.few)))
 
-  pub new-refused : is_new_order m ≡ true → Holds terms (coming_turn client m port (r ∷ []) sends ∷ before) × Each (IsTrueToMarket terms (coming_turn client m port (r ∷ []) sends) before) (news (accepted terms (coming_turn client m port (r ∷ []) sends ∷ before))) × Still terms (coming_turn client m port (r ∷ []) sends) before
+  pub new-refused : is_new_order m ≡ true → Holds terms (coming_turn client m port (r ∷ []) sends ∷ before)
+      × Each (IsTrueToMarket terms (coming_turn client m port (r ∷ []) sends) before)
+      (news (accepted terms (coming_turn client m port (r ∷ []) sends ∷ before)))
+      × Still terms (coming_turn client m port (r ∷ []) sends) before
   new-refused new = coming.refused-Holds terms before client m port r sends H none-taken refl
-      (λ n above small. eq-decimal_other (orders_numbered before + 1) n (λ same. (omega (arith, same, above, count))) (omega (arith, H.few)) small)
+      (λ n above small. eq-decimal_other (orders_numbered before + 1) n (λ same. (omega (arith, same, above, count)))
+      (omega (arith, H.few)) small)
       (λ x f mine. record {
-        reads = Reads-others x (r ∷ []) (issued x.new.client before) (off x.new.order f.number f.order_is f.is_numbered, tt) f.reads;
-        says = (ReadsWell-others x.new.order x.new.message (old_ids x.new.client (accepted terms before)) (issued x.new.client before) (r ∷ []) (off x.new.order f.number f.order_is f.is_numbered, tt)).0;
+        reads = Reads-others x (r ∷ []) (issued x.new.client before)
+            (off x.new.order f.number f.order_is f.is_numbered, tt) f.reads;
+        says = (ReadsWell-others x.new.order x.new.message (old_ids x.new.client (accepted terms before))
+            (issued x.new.client before) (r ∷ []) (off x.new.order f.number f.order_is f.is_numbered, tt)).0;
       })
     where
       one_if : (b : Bool) → b ≡ true → ◌≡◌ {A = ℕ} (if b then 1 else 0) 1
@@ -60,19 +68,25 @@ module _ (terms : List Terms) (before : OrderHistory) (client : ℕ) (m : Messag
       one_if false h = absurd (cc)
 
       count : orders_numbered (coming_turn client m port (r ∷ []) sends ∷ before) ≡ 1 + orders_numbered before
-      count = numbered-came client m port (r ∷ []) sends before ∙ ap (λ n. n + orders_numbered before) (one_if (is_new_order m) new)
+      count = numbered-came client m port (r ∷ []) sends before
+          ∙ ap (λ n. n + orders_numbered before) (one_if (is_new_order m) new)
 
 -- ---- a request that is refused
 
 -- an id that isn't used isn't pending
-not-pending : (terms : List Terms) (entries : List Entry) (sent : List Message) (o : OrderRecord) (id : List ℕ) → is_used id sent ≡ false → Of (IsHome terms entries o.new) (IsFound entries o.new) (IsUsed sent) o → AreOthers id (pending o)
+not-pending : (terms : List Terms) (entries : List Entry) (sent : List Message) (o : OrderRecord) (id : List ℕ)
+    → is_used id sent ≡ false → Of (IsHome terms entries o.new) (IsFound entries o.new) (IsUsed sent) o
+    → AreOthers id (pending o)
 not-pending terms entries sent o id unused holds =
-    Each-append (IsOther) o.replaces (cancel_entry o.cancel) (Each-map _ IsOther o.replaces (λ q h. apart q h.2) holds.replaces) (of-cancel o.cancel (λ c e. apart c.request (holds.cancel c e).2))
+    Each-append (IsOther) o.replaces (cancel_entry o.cancel)
+    (Each-map _ IsOther o.replaces (λ q h. apart q h.2) holds.replaces)
+    (of-cancel o.cancel (λ c e. apart c.request (holds.cancel c e).2))
   where
     IsOther : Entry → Type 0
     IsOther q = bytes_eq (text 11 q.message) id ≡ false
 
-    of-cancel : (c : Option Cancelling) → ((x : Cancelling) → c ≡ Some x → bytes_eq (text 11 x.request.message) id ≡ false) → AreOthers id (cancel_entry c)
+    of-cancel : (c : Option Cancelling) → ((x : Cancelling) → c ≡ Some x
+        → bytes_eq (text 11 x.request.message) id ≡ false) → AreOthers id (cancel_entry c)
     of-cancel None is = tt
     of-cancel (Some c) is = (is c refl, tt)
 
@@ -82,7 +96,8 @@ not-pending terms entries sent o id unused holds =
     apart : (q : Entry) → IsUsed sent (text 11 q.message) → bytes_eq (text 11 q.message) id ≡ false
     apart q used = eq-other (text 11 q.message) id (λ same. clash (text 11 q.message) same used)
 
-module _ (terms : List Terms) (before : OrderHistory) (client : ℕ) (m : Message) (port : Port) (sends : List (List ℕ)) (H : Holds terms before) (short : length before < 2 ^ 59)
+module _ (terms : List Terms) (before : OrderHistory) (client : ℕ) (m : Message) (port : Port) (sends : List (List ℕ))
+    (H : Holds terms before) (short : length before < 2 ^ 59)
     (code : ℕ) (why : List ℕ) (v : verdict terms (issued client before) (accepted terms before) port m ≡ Refused code why) (no_new : is_new_order m ≡ false) where
   abbrev A : List Entry
   A = accepted terms before
@@ -93,15 +108,22 @@ module _ (terms : List Terms) (before : OrderHistory) (client : ℕ) (m : Messag
   abbrev n : Message
   n = reject (codes "NONE") (codes "8") m code why
 
-  pub unknown-refused : Holds terms (coming_turn client m port (n ∷ []) sends ∷ before) × Each (IsTrueToMarket terms (coming_turn client m port (n ∷ []) sends) before) (news (accepted terms (coming_turn client m port (n ∷ []) sends ∷ before))) × Still terms (coming_turn client m port (n ∷ []) sends) before
+  pub unknown-refused : Holds terms (coming_turn client m port (n ∷ []) sends ∷ before)
+      × Each (IsTrueToMarket terms (coming_turn client m port (n ∷ []) sends) before)
+      (news (accepted terms (coming_turn client m port (n ∷ []) sends ∷ before)))
+      × Still terms (coming_turn client m port (n ∷ []) sends) before
   unknown-refused = coming.refused-Holds terms before client m port n sends H none-taken' refl
       (λ k above small. none-apart k small)
-      (λ x f mine. (let off : is 37 x.new.order n ≡ false = rw f.order_is (none-apart f.number (omega (arith, f.is_numbered, H.few))) in record {
+      (λ x f mine. (let off : is 37 x.new.order n ≡ false =
+      rw f.order_is (none-apart f.number (omega (arith, f.is_numbered, H.few))) in record {
         reads = Reads-others x (n ∷ []) (issued x.new.client before) (off, tt) f.reads;
-        says = (ReadsWell-others x.new.order x.new.message (old_ids x.new.client A) (issued x.new.client before) (n ∷ []) (off, tt)).0;
+        says = (ReadsWell-others x.new.order x.new.message (old_ids x.new.client A) (issued x.new.client before)
+            (n ∷ []) (off, tt)).0;
       }))
 
-  own-verdict : Rattle.order_law.specs.Verdicts.verdict_of_request (issued client before) (option_and_then (standing_of terms (issued client before) A) (named_order (text 41 m) (issued client before))) port (given_tokens A) m ≡ Refused code why
+  own-verdict : Rattle.order_law.specs.Verdicts.verdict_of_request (issued client before)
+      (option_and_then (standing_of terms (issued client before) A) (named_order (text 41 m) (issued client before)))
+      port (given_tokens A) m ≡ Refused code why
   own-verdict = rw no_new at v
 
   module _ (e : Entry) (h : HasRecord terms before e) where
@@ -114,52 +136,87 @@ module _ (terms : List Terms) (before : OrderHistory) (client : ℕ) (m : Messag
     reject-off : (k : List ℕ) → bytes_eq e.order k ≡ false → is 37 k x ≡ false
     reject-off k apart = apart
 
-    pub known-refused : Holds terms (coming_turn client m port (x ∷ []) sends ∷ before) × Each (IsTrueToMarket terms (coming_turn client m port (x ∷ []) sends) before) (news (accepted terms (coming_turn client m port (x ∷ []) sends ∷ before))) × Still terms (coming_turn client m port (x ∷ []) sends) before
-    known-refused = coming.refused-Holds terms before client m port x sends H none-taken' refl fresh (λ y f mine. by_order y f mine (bytes_eq e.order y.new.order) refl)
+    pub known-refused : Holds terms (coming_turn client m port (x ∷ []) sends ∷ before)
+        × Each (IsTrueToMarket terms (coming_turn client m port (x ∷ []) sends) before)
+        (news (accepted terms (coming_turn client m port (x ∷ []) sends ∷ before)))
+        × Still terms (coming_turn client m port (x ∷ []) sends) before
+    known-refused = coming.refused-Holds terms before client m port x sends H none-taken' refl fresh
+        (λ y f mine. by_order y f mine (bytes_eq e.order y.new.order) refl)
       where
-        fresh : (k : ℕ) → orders_numbered (coming_turn client m port (x ∷ []) sends ∷ before) < k → k < 10 ^ 64 → is 37 (decimal k) x ≡ false
+        fresh : (k : ℕ) → orders_numbered (coming_turn client m port (x ∷ []) sends ∷ before) < k → k < 10 ^ 64
+            → is 37 (decimal k) x ≡ false
         fresh k above small =
             let order : e.order ≡ decimal h.fits.number = ap (λ (q : Entry). q.order) (sym h.same) ∙ h.fits.order_is in
-            rw order (eq-decimal_other h.fits.number k (λ same. (omega (arith, same, above, h.fits.is_numbered, numbered-came client m port (x ∷ []) sends before))) (omega (arith, h.fits.is_numbered, H.few)) small)
+            rw order (eq-decimal_other h.fits.number k
+            (λ same. (omega (
+              arith,
+              same,
+              above,
+              h.fits.is_numbered,
+              numbered-came client m port
+                  (x ∷ []) sends before,
+            ))) (omega (arith, h.fits.is_numbered, H.few)) small)
 
-        own-tells : (y : OrderRecord) → FitsIn terms before y → y.new ≡ e → client ≡ y.new.client → Tells (old_ids y.new.client A) (issued y.new.client before) x y (pending y)
+        own-tells : (y : OrderRecord) → FitsIn terms before y → y.new ≡ e → client ≡ y.new.client
+            → Tells (old_ids y.new.client A) (issued y.new.client before) x y (pending y)
         own-tells y f is_e mine =
-            let shown_so : s ≡ shown_as y = ap (shown terms before) (sym is_e) ∙ shown-is terms before (orders_numbered before) (outstanding terms (port_of terms y.new) before) (reports_in before) (1_000_000 * length before) y f in
-            subst (λ (z : Shown). Tells (old_ids y.new.client A) (issued y.new.client before) (reject z.order (status_of z) m code why) y (pending y)) (sym shown_so)
+            let shown_so : s ≡ shown_as y = ap (shown terms before) (sym is_e)
+            ∙ shown-is terms before (orders_numbered before) (outstanding terms (port_of terms y.new) before)
+            (reports_in before) (1_000_000 * length before) y f in
+            subst (λ (z : Shown). Tells (old_ids y.new.client A) (issued y.new.client before)
+            (reject z.order (status_of z) m code why) y (pending y)) (sym shown_so)
             (refused-tells m code why y (pending y) (old_ids y.new.client A) (issued y.new.client before) f.keeps.sound f.reads (bytes_eq (decimal code) (codes "6")) refl
-            (λ other. not-pending terms A (issued y.new.client before) y (text 11 m) (subst (λ (c : ℕ). is_used (text 11 m) (issued c before) ≡ false) mine
-            (refused-unused (issued client before) (option_and_then (standing_of terms (issued client before) A) (named_order (text 41 m) (issued client before))) port (given_tokens A) m code why own-verdict other)) f.holds))
+            (λ other. not-pending terms A (issued y.new.client before) y (text 11 m)
+            (subst (λ (c : ℕ). is_used (text 11 m) (issued c before) ≡ false) mine
+            (refused-unused (issued client before) (option_and_then (standing_of terms (issued client before) A)
+            (named_order (text 41 m) (issued client before))) port (given_tokens A) m code why own-verdict other))
+            f.holds))
 
-        by_order : (y : OrderRecord) → FitsIn terms before y → client ≡ y.new.client → (b : Bool) → bytes_eq e.order y.new.order ≡ b → IsTold terms before client m port x sends H y
+        by_order : (y : OrderRecord) → FitsIn terms before y → client ≡ y.new.client → (b : Bool)
+            → bytes_eq e.order y.new.order ≡ b → IsTold terms before client m port x sends H y
         by_order y f mine true same =
-            let known_e : new_of e.order A ≡ Some e = subst (λ (q : Entry). new_of q.order A ≡ Some q) h.same h.fits.known in
-            let it : y.new ≡ e = same_some y.new e (sym f.known ∙ ap (λ (k : List ℕ). new_of k A) (sym (eq-is e.order y.new.order same)) ∙ known_e) in
+            let known_e : new_of e.order A ≡ Some e =
+            subst (λ (q : Entry). new_of q.order A ≡ Some q) h.same h.fits.known in
+            let it : y.new ≡ e = same_some y.new e (sym f.known
+            ∙ ap (λ (k : List ℕ). new_of k A) (sym (eq-is e.order y.new.order same)) ∙ known_e) in
             let both = own-tells y f it mine in
             record { reads = both.reads; says = both.says }
         by_order y f mine false apart = record {
           reads = Reads-others y (x ∷ []) (issued y.new.client before) (apart, tt) f.reads;
-          says = (ReadsWell-others y.new.order y.new.message (old_ids y.new.client A) (issued y.new.client before) (x ∷ []) (apart, tt)).0;
+          says = (ReadsWell-others y.new.order y.new.message (old_ids y.new.client A) (issued y.new.client before)
+              (x ∷ []) (apart, tt)).0;
         }
 
 -- ---- a new order that is accepted
 
-born-life : (root : List ℕ) (side : ℕ) (ms : List Outbound) → Each (PassesOver root side) ms → life root side ms ≡ born root side
+born-life : (root : List ℕ) (side : ℕ) (ms : List Outbound) → Each (PassesOver root side) ms
+    → life root side ms ≡ born root side
 born-life root side [] each = refl
 born-life root side (m ∷ ms) each = ap (λ (l : Life). after l m) (born-life root side ms each.1) ∙ each.0.0
 
-born-price : (new : Entry) (entries : List Entry) (ms : List Outbound) → new_of new.order entries ≡ Some new → Each (PassesOver (token_of new) (character 54 new.message)) ms → price_after new entries ms ≡ limit_of new.message
+born-price : (new : Entry) (entries : List Entry) (ms : List Outbound) → new_of new.order entries ≡ Some new
+    → Each (PassesOver (token_of new) (character 54 new.message)) ms → price_after new entries ms ≡ limit_of new.message
 born-price new entries [] known each = refl
 born-price new entries (m ∷ ms) known each =
-    let lived' : life_of new.order entries ms ≡ born (token_of new) (character 54 new.message) = rw known (born-life (token_of new) (character 54 new.message) ms each.1) in
-    ap (λ (l : Life). priced m l (price_after new entries ms)) lived' ∙ each.0.1 (price_after new entries ms) ∙ born-price new entries ms known each.1
+    let lived' : life_of new.order entries ms ≡ born (token_of new) (character 54 new.message) =
+    rw known (born-life (token_of new) (character 54 new.message) ms each.1) in
+    ap (λ (l : Life). priced m l (price_after new entries ms)) lived' ∙ each.0.1 (price_after new entries ms)
+    ∙ born-price new entries ms known each.1
 
-module _ (terms : List Terms) (before : OrderHistory) (client : ℕ) (m : Message) (port : Port) (sends : List (List ℕ)) (H : Holds terms before) (short : length before < 2 ^ 59)
+module _ (terms : List Terms) (before : OrderHistory) (client : ℕ) (m : Message) (port : Port) (sends : List (List ℕ))
+    (H : Holds terms before) (short : length before < 2 ^ 59)
     (v : verdict terms (issued client before) (accepted terms before) port m ≡ Accepted) (new : is_new_order m ≡ true) where
   abbrev D : List Entry
   D = accepted terms before
 
   abbrev en : Entry
-  en = record { client = client; message = m; order = decimal (orders_numbered before + 1); token = Some (given_tokens D + 1) }
+  en = record {
+    client = client;
+    message = m;
+    order = decimal (orders_numbered before + 1);
+    token =
+        Some (given_tokens D + 1);
+  }
 
   abbrev a : Message
   a = report (reports_in before + 1) (plain (codes "A")) (newly_shown en)
@@ -177,7 +234,8 @@ module _ (terms : List Terms) (before : OrderHistory) (client : ℕ) (m : Messag
   next-new = record {
     order = λ e. refl;
     token = λ n e. sym (same_some (given_tokens D + 1) n e);
-    room = λ n e. (let it : given_tokens D + 1 ≡ n = same_some (given_tokens D + 1) n e in omega (arith, says-new.token, it));
+    room = λ n e. (let it : given_tokens D + 1 ≡ n = same_some (given_tokens D + 1) n e in
+        omega (arith, says-new.token, it));
     unused = says-new.unused;
     few = omega (arith, H.few);
   }
@@ -186,7 +244,8 @@ module _ (terms : List Terms) (before : OrderHistory) (client : ℕ) (m : Messag
   own-known = let own = eq-same (decimal (orders_numbered before + 1)) in rw (own, new) refl
 
   count-new : orders_numbered (w ∷ before) ≡ 1 + orders_numbered before
-  count-new = numbered-came client m port (a ∷ []) sends before ∙ ap (λ n. n + orders_numbered before) (one_if (is_new_order m) new)
+  count-new = numbered-came client m port (a ∷ []) sends before
+      ∙ ap (λ n. n + orders_numbered before) (one_if (is_new_order m) new)
     where
       one_if : (b : Bool) → b ≡ true → ◌≡◌ {A = ℕ} (if b then 1 else 0) 1
       one_if true h = refl
@@ -196,22 +255,35 @@ module _ (terms : List Terms) (before : OrderHistory) (client : ℕ) (m : Messag
   home-new = next-home terms before en H next-new en (given_tokens D + 1) refl refl own-known
 
   passes : Each (PassesOver (token_of en) (character 54 m)) (handled (port_of terms en) before)
-  passes = H.unheard (given_tokens D + 1) (port_of terms en) (character 54 m) (omega arith) (omega (arith, says-new.token))
+  passes = H.unheard (given_tokens D + 1) (port_of terms en) (character 54 m) (omega arith)
+      (omega (arith, says-new.token))
 
-  asked-new : own en.order (outstanding terms (port_of terms en) before ++ asks_of terms (port_of terms en) (Some en) D (issued client before) (handled (port_of terms en) before)) ≡ asked_as terms (entered en)
+  asked-new : own en.order (outstanding terms (port_of terms en) before
+      ++ asks_of terms (port_of terms en) (Some en) D (issued client before) (handled (port_of terms en) before))
+      ≡ asked_as terms (entered en)
   asked-new =
-      coming.own-append en.order (outstanding terms (port_of terms en) before) (asks_of terms (port_of terms en) (Some en) D (issued client before) (handled (port_of terms en) before))
-      ∙ (let own_order = eq-same (decimal (orders_numbered before + 1)) in rw (H.unasked (orders_numbered before + 1) (port_of terms en) (omega arith) (omega (arith, H.few)), eq-eqb (port_of terms en) (port_of terms en) refl, new, own_order) refl)
+      coming.own-append en.order (outstanding terms (port_of terms en) before)
+      (asks_of terms (port_of terms en) (Some en) D (issued client before) (handled (port_of terms en) before))
+      ∙ (let own_order = eq-same (decimal (orders_numbered before + 1)) in
+      rw (
+        H.unasked (orders_numbered before + 1) (port_of terms en) (omega arith) (omega (arith, H.few)),
+        eq-eqb
+            (port_of terms en) (port_of terms en) refl,
+        new,
+        own_order,
+      ) refl)
 
   reads-new : Reads (a ∷ issued client before) (entered en)
-  reads-new = entered-Reads (reports_in before + 1) en (issued client before) (omega (arith, says-new.most)) (H.unread (orders_numbered before + 1) client (omega arith) (omega (arith, H.few)))
+  reads-new = entered-Reads (reports_in before + 1) en (issued client before) (omega (arith, says-new.most))
+      (H.unread (orders_numbered before + 1) client (omega arith) (omega (arith, H.few)))
 
   tells-new : (old_id : List ℕ → List ℕ) → Tells old_id (issued client before) a (entered en) []
   tells-new old_id = report-tells (reports_in before + 1) (plain (codes "A")) (entered en) [] old_id (issued client before) (entered-sound en) reads-new (let id = eq-same (text 11 m) in rw id refl)
 
   pub fits-new : FitsIn terms (w ∷ before) (entered en)
   fits-new = rw taken-new (record {
-    reads = subst (λ (xs : List Message). Reads xs (entered en)) (sym (coming.issued-own terms before client m port a sends H)) reads-new;
+    reads = subst (λ (xs : List Message). Reads xs (entered en))
+        (sym (coming.issued-own terms before client m port a sends H)) reads-new;
     lives = born-life (token_of en) (character 54 m) (handled (port_of terms en) before) passes;
     priced = born-price en (en ∷ D) (handled (port_of terms en) before) own-known passes;
     asked_so = asked-new;
@@ -237,7 +309,8 @@ module _ (terms : List Terms) (before : OrderHistory) (client : ℕ) (m : Messag
       live = (home-new, tt);
       replaces = tt;
       cancel = λ c e. absurd (cc);
-      id = subst (λ (xs : List Message). is_used (text 11 m) xs ≡ true) (sym (coming.issued-own terms before client m port a sends H)) (let id = eq-same (text 11 m) in rw id refl);
+      id = subst (λ (xs : List Message). is_used (text 11 m) xs ≡ true)
+          (sym (coming.issued-own terms before client m port a sends H)) (let id = eq-same (text 11 m) in rw id refl);
     };
     known = own-known;
     is_new = new;
@@ -250,5 +323,7 @@ module _ (terms : List Terms) (before : OrderHistory) (client : ℕ) (m : Messag
   beside-new = coming.beside-fits terms before client m port a sends H en taken-new refl next-new refl
 
   pub new-taken : Holds terms (w ∷ before) × Each (IsTrueToMarket terms w before) (news (accepted terms (w ∷ before)))
-  new-taken = coming.taken-Holds terms before client m port a sends H en taken-new refl next-new refl en own-known refl (orders_numbered before + 1) refl (omega (arith, count-new)) (omega (arith, H.few))
-      (record { order = entered en; same = refl; fits = fits-new }) ((tells-new (old_ids client (accepted terms (w ∷ before)))).says, tt) (sym new)
+  new-taken = coming.taken-Holds terms before client m port a sends H en taken-new refl next-new refl en own-known refl
+      (orders_numbered before + 1) refl (omega (arith, count-new)) (omega (arith, H.few))
+      (record { order = entered en; same = refl; fits = fits-new })
+      ((tells-new (old_ids client (accepted terms (w ∷ before)))).says, tt) (sym new)

@@ -24,7 +24,9 @@ use Rattle.order_machine.proofs.Moves.{AreNumbered, Keeps, Moves, Of-unasked, an
 use Rattle.order_machine.proofs.Executed.{AreNumbered-more, unanswered-same}
 
 -- an order of which nothing is open or asked any more keeps what it has to
-pub over-keeps : (reports limit more after : ℕ) (o p : OrderRecord) → reports ≤ after → p.stage ≡ Closed → p.replaces ≡ [] → p.cancel ≡ None → p.trades ≡ o.trades → (p.is_refused ≡ true → o.trades ≡ []) → p.unfilled ≡ 0 → p.executed ≤ limit + more → AreNumbered reports o.trades
+pub over-keeps : (reports limit more after : ℕ) (o p : OrderRecord) → reports ≤ after → p.stage ≡ Closed
+    → p.replaces ≡ [] → p.cancel ≡ None → p.trades ≡ o.trades → (p.is_refused ≡ true → o.trades ≡ []) → p.unfilled ≡ 0
+    → p.executed ≤ limit + more → AreNumbered reports o.trades
     → Keeps after (limit + more) p
 over-keeps reports limit more after o p later over no_r no_c same rejected none small numbered = record {
   sound = record {
@@ -49,7 +51,8 @@ over-keeps reports limit more after o p later over no_r no_c same rejected none 
   numbered = rw same (AreNumbered-more reports after o.trades later numbered);
 }
 
-module _ (P : List ℕ → Type 0) (Q : Entry → Type 0) (R : List ℕ → Type 0) (terms : List Terms) (old_id : List ℕ → List ℕ) (sent : List Message) (reports limit more : ℕ) (m : Canceled) (o : OrderRecord)
+module _ (P : List ℕ → Type 0) (Q : Entry → Type 0) (R : List ℕ → Type 0) (terms : List Terms)
+    (old_id : List ℕ → List ℕ) (sent : List Message) (reports limit more : ℕ) (m : Canceled) (o : OrderRecord)
     (live : is_live (record_life o) m.token ≡ true) (works : o.stage ≡ Working)
     (some : 1 ≤ m.decrement) (few : m.decrement ≤ o.unfilled) (limit_small : limit < 10 ^ 63)
     (keeps : Keeps reports limit o) (named : AreNamed old_id (pending o)) (reads : Reads sent o) where
@@ -80,10 +83,13 @@ module _ (P : List ℕ → Type 0) (Q : Entry → Type 0) (R : List ℕ → Type
     part-lives : after (record_life o) (market.Canceled m) ≡ record_life p
     part-lives = rw (live, rest) refl
 
-    part-bodies : told_by reports (market.Canceled m) (record_life o) (answers_last (market.Canceled m) (replacements o.replaces) (asked_as terms o)) (map fill_of o.trades) (shown_as o) ≡ report (reports + 1) restated (shown_as p) ∷ []
+    part-bodies : told_by reports (market.Canceled m) (record_life o)
+        (answers_last (market.Canceled m) (replacements o.replaces) (asked_as terms o)) (map fill_of o.trades)
+        (shown_as o) ≡ report (reports + 1) restated (shown_as p) ∷ []
     part-bodies = rw (part-lives, works) refl
 
-    part-ids : has_due_ids (report (reports + 1) restated (shown_as p)) (chain o.new.order sent) (chained p) old_id ≡ true
+    part-ids : has_due_ids (report (reports + 1) restated (shown_as p)) (chain o.new.order sent) (chained p) old_id
+        ≡ true
     part-ids = let id = eq-same o.id in rw id refl
 
     pub part-moves : Moves P Q R terms old_id sent reports limit more (market.Canceled m) o p
@@ -92,7 +98,8 @@ module _ (P : List ℕ → Type 0) (Q : Entry → Type 0) (R : List ℕ → Type
       kept = λ k. record { front = k.front; live = k.live; replaces = k.replaces; cancel = k.cancel; id = k.id };
       lives = part-lives;
       leads = subst (λ (bodies : List Message). Leads o.new old_id sent bodies p (pending p)) (sym part-bodies)
-          (leads-one old_id sent _ p (pending p) (report-tells (reports + 1) restated p (pending p) old_id sent (reduced-sound m.decrement o works keeps.sound)
+          (leads-one old_id sent _ p (pending p) (report-tells (reports + 1) restated p (pending p) old_id sent
+          (reduced-sound m.decrement o works keeps.sound)
           (restated-Reads (reports + 1) m.decrement (codes "5") reason o sent works few (omega (arith, small)) small reads) part-ids));
       asked = λ e. unanswered-same terms (market.Canceled m) (replacements o.replaces) o answers_none;
       price = same_price;
@@ -128,7 +135,9 @@ module _ (P : List ℕ → Type 0) (Q : Entry → Type 0) (R : List ℕ → Type
     all-lives : after (record_life o) (market.Canceled m) ≡ record_life (unasked (gone o))
     all-lives = rw (live, none, nothing_left, all_of_it) refl
 
-    all-bodies : told_by reports (market.Canceled m) (record_life o) (answers_last (market.Canceled m) (replacements o.replaces) (asked_as terms o)) (map fill_of o.trades) (shown_as o) ≡ cancelled (reports + 1) (Some reason) (told.closed (shown_as o))
+    all-bodies : told_by reports (market.Canceled m) (record_life o)
+        (answers_last (market.Canceled m) (replacements o.replaces) (asked_as terms o)) (map fill_of o.trades)
+        (shown_as o) ≡ cancelled (reports + 1) (Some reason) (told.closed (shown_as o))
     all-bodies = rw (all-lives) refl
 
     pub all-moves : Moves P Q R terms old_id sent reports limit more (market.Canceled m) o (unasked (gone o))
@@ -137,8 +146,10 @@ module _ (P : List ℕ → Type 0) (Q : Entry → Type 0) (R : List ℕ → Type
       kept = Of-unasked P Q R o (unasked (gone o)) refl refl refl refl;
       lives = all-lives;
       leads = subst (λ (bodies : List Message). Leads o.new old_id sent bodies (unasked (gone o)) []) (sym all-bodies)
-          (cancelled-leads old_id (reports + 1) (Some reason) o works keeps.sound sent o.replaces o.cancel keeps.sound.replaces keeps.sound.cancels keeps.apart keeps.current named reads);
+          (cancelled-leads old_id (reports + 1) (Some reason) o works keeps.sound sent o.replaces o.cancel
+          keeps.sound.replaces keeps.sound.cancels keeps.apart keeps.current named reads);
       asked = λ e. absurd (cc);
       price = same_price;
-      keeps = λ after later. over-keeps reports limit more after o (unasked (gone o)) (omega (arith, later)) refl refl refl refl keeps.rejected refl (omega (arith, keeps.small)) keeps.numbered;
+      keeps = λ after later. over-keeps reports limit more after o (unasked (gone o))
+          (omega (arith, later)) refl refl refl refl keeps.rejected refl (omega (arith, keeps.small)) keeps.numbered;
     }

@@ -12,13 +12,16 @@ use Rattle.order_machine.proofs.Ids.{told-few}
 
 few-on : (s : TableState) (m : Outbound) (x : Option OrderRecord) → count_by is_report (heard_on s m x).bodies ≤ 2
 few-on s m None = omega arith
-few-on s m (Some o) = told-few s.exec_ids m (record_life o) (last_of m (replacements o.replaces) o.cancel) (map fill_of o.trades) (shown_as o)
+few-on s m (Some o) = told-few s.exec_ids m (record_life o) (last_of m (replacements o.replaces) o.cancel)
+    (map fill_of o.trades) (shown_as o)
 
-few-given : (s : TableState) (port : ℕ) (heard : Result Outbound DecodeRefusal) (x : Option ℕ) → count_by is_report (given_by_fault s port heard x).bodies ≤ 2
+few-given : (s : TableState) (port : ℕ) (heard : Result Outbound DecodeRefusal) (x : Option ℕ)
+    → count_by is_report (given_by_fault s port heard x).bodies ≤ 2
 few-given s port (Ok m) None = few-on s m (order_in s port m)
 few-given s port (Ok m) (Some fault) = omega arith
 few-given s port (Err refusal) None = omega arith
 few-given s port (Err refusal) (Some fault) = omega arith
 
-pub few-reports : (s : TableState) (port : ℕ) (heard : Result Outbound DecodeRefusal) → count_by is_report (market_step s port heard).bodies ≤ 2
+pub few-reports : (s : TableState) (port : ℕ) (heard : Result Outbound DecodeRefusal)
+    → count_by is_report (market_step s port heard).bodies ≤ 2
 few-reports s port heard = few-given s port heard (payload_fault s port heard)

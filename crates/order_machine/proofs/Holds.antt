@@ -35,7 +35,9 @@ abbrev pub port_of : List Terms → Entry → ℕ
 port_of terms e = (terms_of terms e.client).port
 
 abbrev pub FitsIn : List Terms → OrderHistory → OrderRecord → Type 0
-FitsIn terms h o = Fits terms (accepted terms h) (orders_numbered h) (issued o.new.client h) (handled (port_of terms o.new) h) (outstanding terms (port_of terms o.new) h) (reports_in h) (1_000_000 * length h) o
+FitsIn terms h o = Fits terms (accepted terms h) (orders_numbered h) (issued o.new.client h)
+    (handled (port_of terms o.new) h) (outstanding terms (port_of terms o.new) h) (reports_in h)
+    (1_000_000 * length h) o
 
 pub record HasRecord (terms : List Terms) (h : OrderHistory) (e : Entry) : Type 0 where
   pub order : OrderRecord
@@ -50,7 +52,8 @@ orders_of client entries = map (λ (e : Entry). e.order) (filter (λ (e : Entry)
 
 -- a message is nothing to an order that no message has been on
 abbrev pub PassesOver : List ℕ → ℕ → Outbound → Type 0
-PassesOver root side m = (after (born root side) m ≡ born root side) × ((before : ℕ) → priced m (born root side) before ≡ before)
+PassesOver root side m = (after (born root side) m ≡ born root side)
+    × ((before : ℕ) → priced m (born root side) before ≡ before)
 
 pub record Holds (terms : List Terms) (h : OrderHistory) : Type 0 where
   pub entries : Each (IsEntry terms (accepted terms h) (orders_numbered h)) (accepted terms h)
@@ -58,7 +61,8 @@ pub record Holds (terms : List Terms) (h : OrderHistory) : Type 0 where
   pub records : Each (HasRecord terms h) (news (accepted terms h))
   pub listed : (c : ℕ) → orders (issued c h) ≡ orders_of c (accepted terms h)
   pub unread : (n c : ℕ) → orders_numbered h < n → n < 10 ^ 64 → IsUnread (decimal n) (issued c h)
-  pub unheard : (n p side : ℕ) → given_tokens (accepted terms h) < n → n ≤ 9_999_999_999_999 → Each (PassesOver (token_text n) side) (handled p h)
+  pub unheard : (n p side : ℕ) → given_tokens (accepted terms h) < n → n ≤ 9_999_999_999_999
+      → Each (PassesOver (token_text n) side) (handled p h)
   pub unasked : (n p : ℕ) → orders_numbered h < n → n < 10 ^ 64 → own (decimal n) (outstanding terms p h) ≡ []
   pub few : orders_numbered h ≤ length h
 
@@ -68,11 +72,13 @@ Still terms t before = (x : OrderRecord) → FitsIn terms before x → FitsIn te
 
 -- each but one
 abbrev pub StillBeside : List ℕ → List Terms → OrderTurn → OrderHistory → Type 0
-StillBeside order terms t before = (x : OrderRecord) → FitsIn terms before x → bytes_eq order x.new.order ≡ false → FitsIn terms (t ∷ before) x
+StillBeside order terms t before = (x : OrderRecord) → FitsIn terms before x → bytes_eq order x.new.order ≡ false
+    → FitsIn terms (t ∷ before) x
 
 -- ---- members
 
-pub each-find : {A : Type 0} (P : A → Type 0) (p : A → Bool) (xs : List A) (x : A) → Each P xs → find p xs ≡ Some x → P x
+pub each-find : {A : Type 0} (P : A → Type 0) (p : A → Bool) (xs : List A) (x : A) → Each P xs → find p xs ≡ Some x
+    → P x
 each-find P p [] x each e = absurd (cc)
 each-find P p (y ∷ ys) x each e = by_test (p y) e (λ f. each-find P p ys x each.1 f)
   where
@@ -81,11 +87,15 @@ each-find P p (y ∷ ys) x each e = by_test (p y) e (λ f. each-find P p ys x ea
     by_test false e later = later e
 
 -- the record of a new order that is found
-pub record-of : (terms : List Terms) (h : OrderHistory) (k : List ℕ) (entries : List Entry) (new : Entry) → Each (HasRecord terms h) (news entries) → new_of k entries ≡ Some new → HasRecord terms h new
+pub record-of : (terms : List Terms) (h : OrderHistory) (k : List ℕ) (entries : List Entry) (new : Entry)
+    → Each (HasRecord terms h) (news entries) → new_of k entries ≡ Some new → HasRecord terms h new
 record-of terms h k [] new each e = absurd (cc)
-record-of terms h k (y ∷ ys) new each e = by_new (is_new_order y.message) (bytes_eq y.order k) each e (λ rest f. record-of terms h k ys new rest f)
+record-of terms h k (y ∷ ys) new each e =
+    by_new (is_new_order y.message) (bytes_eq y.order k) each e (λ rest f. record-of terms h k ys new rest f)
   where
-    by_new : (n b : Bool) → Each (HasRecord terms h) (if n then y ∷ news ys else news ys) → (if b && n then Some y else new_of k ys) ≡ Some new → (Each (HasRecord terms h) (news ys) → new_of k ys ≡ Some new → HasRecord terms h new) → HasRecord terms h new
+    by_new : (n b : Bool) → Each (HasRecord terms h) (if n then y ∷ news ys else news ys)
+        → (if b && n then Some y else new_of k ys) ≡ Some new
+        → (Each (HasRecord terms h) (news ys) → new_of k ys ≡ Some new → HasRecord terms h new) → HasRecord terms h new
     by_new true true each e later = subst (HasRecord terms h) (same_some y new e) each.0
     by_new true false each e later = later each.1 e
     by_new false true each e later = later each e
@@ -93,7 +103,8 @@ record-of terms h k (y ∷ ys) new each e = by_new (is_new_order y.message) (byt
 
 -- ---- more reports and turns
 
-pub Keeps-more : (reports limit reports' limit' : ℕ) (o : OrderRecord) → reports ≤ reports' → limit ≤ limit' → Keeps reports limit o → Keeps reports' limit' o
+pub Keeps-more : (reports limit reports' limit' : ℕ) (o : OrderRecord) → reports ≤ reports' → limit ≤ limit'
+    → Keeps reports limit o → Keeps reports' limit' o
 Keeps-more reports limit reports' limit' o more more' k = record {
   sound = k.sound;
   apart = k.apart;
@@ -112,40 +123,64 @@ Keeps-more reports limit reports' limit' o more more' k = record {
   numbered = AreNumbered-more reports reports' o.trades more k.numbered;
 }
 
-pub Of-used : (P : List ℕ → Type 0) (Q : Entry → Type 0) (R S : List ℕ → Type 0) (o : OrderRecord) → ((id : List ℕ) → R id → S id) → Of P Q R o → Of P Q S o
+pub Of-used : (P : List ℕ → Type 0) (Q : Entry → Type 0) (R S : List ℕ → Type 0) (o : OrderRecord)
+    → ((id : List ℕ) → R id → S id) → Of P Q R o → Of P Q S o
 Of-used P Q R S o more k = record {
   front = k.front;
   live = k.live;
-  replaces = Each-map _ _ o.replaces (λ q holds. (holds.0, holds.1, more (Rattle.fix_fields.specs.Field.text 11 q.message) holds.2)) k.replaces;
-  cancel = λ c e. ((k.cancel c e).0, (k.cancel c e).1, more (Rattle.fix_fields.specs.Field.text 11 c.request.message) (k.cancel c e).2);
+  replaces = Each-map _ _ o.replaces (λ q holds.
+      (holds.0, holds.1, more (Rattle.fix_fields.specs.Field.text 11 q.message) holds.2)) k.replaces;
+  cancel = λ c e. (
+    (k.cancel c e).0,
+    (k.cancel c e).1,
+    more (Rattle.fix_fields.specs.Field.text 11 c.request.message)
+        (k.cancel c e).2,
+  );
   id = more o.id k.id;
 }
 
 -- an order that a turn doesn't change
-pub quiet-Fits : (terms : List Terms) (entries : List Entry) (n n' : ℕ) (sent sent' : List Message) (messages messages' : List Outbound) (asked asked' : List Asked) (reports reports' limit limit' : ℕ) (o : OrderRecord)
+pub quiet-Fits : (terms : List Terms) (entries : List Entry) (n n' : ℕ) (sent sent' : List Message)
+    (messages messages' : List Outbound) (asked asked' : List Asked) (reports reports' limit limit' : ℕ)
+    (o : OrderRecord)
     → Fits terms entries n sent messages asked reports limit o → n ≤ n'
     → Reads sent' o → ((id : List ℕ) → is_used id sent ≡ true → is_used id sent' ≡ true)
-    → life (token_of o.new) (character 54 o.new.message) messages' ≡ life (token_of o.new) (character 54 o.new.message) messages → price_after o.new entries messages' ≡ price_after o.new entries messages
-    → own o.new.order asked' ≡ own o.new.order asked → reports ≤ reports' → limit ≤ limit' → Fits terms entries n' sent' messages' asked' reports' limit' o
-quiet-Fits terms entries n n' sent sent' messages messages' asked asked' reports reports' limit limit' o f more_orders reads used same_life same_price same_asked more more' = record {
-  reads = reads;
-  lives = same_life ∙ f.lives;
-  priced = same_price ∙ f.priced;
-  asked_so = same_asked ∙ f.asked_so;
-  keeps = Keeps-more reports limit reports' limit' o more more' f.keeps;
-  holds = Of-used (IsHome terms entries o.new) (IsFound entries o.new) (IsUsed sent) (IsUsed sent') o used f.holds;
-  known = f.known;
-  is_new = f.is_new;
-  number = f.number;
-  order_is = f.order_is;
-  is_numbered = omega (arith, f.is_numbered);
-}
+    → life (token_of o.new) (character 54 o.new.message) messages'
+    ≡ life (token_of o.new) (character 54 o.new.message) messages
+    → price_after o.new entries messages' ≡ price_after o.new entries messages
+    → own o.new.order asked' ≡ own o.new.order asked → reports ≤ reports' → limit ≤ limit'
+    → Fits terms entries n' sent' messages' asked' reports' limit' o
+quiet-Fits terms entries n n' sent sent' messages messages' asked asked' reports reports' limit limit' o f more_orders
+    reads used same_life same_price same_asked more more' = record {
+      reads = reads;
+      lives = same_life ∙ f.lives;
+      priced = same_price ∙ f.priced;
+      asked_so = same_asked ∙ f.asked_so;
+      keeps = Keeps-more reports limit reports' limit' o more more' f.keeps;
+      holds = Of-used (IsHome terms entries o.new) (IsFound entries o.new) (IsUsed sent) (IsUsed sent') o used f.holds;
+      known = f.known;
+      is_new = f.is_new;
+      number = f.number;
+      order_is = f.order_is;
+      is_numbered = omega (arith, f.is_numbered);
+    }
 
 -- ---- an order after a turn is true to the market
 
-pub true-of : (terms : List Terms) (t : OrderTurn) (before : OrderHistory) (e : Entry) (r : HasRecord terms (t ∷ before) e) → (t.client ≡ e.client → ReadsWell e.order e.message (old_ids e.client (accepted terms (t ∷ before))) (issued e.client before) t.bodies) → IsTrueToMarket terms t before e
+pub true-of : (terms : List Terms) (t : OrderTurn) (before : OrderHistory) (e : Entry)
+    (r : HasRecord terms (t ∷ before) e) → (t.client ≡ e.client
+    → ReadsWell e.order e.message (old_ids e.client (accepted terms (t ∷ before))) (issued e.client before) t.bodies)
+    → IsTrueToMarket terms t before e
 true-of terms t before e r well = subst (IsTrueToMarket terms t before) r.same (record {
-  agree = agree-so terms (accepted terms (t ∷ before)) (orders_numbered (t ∷ before)) (issued r.order.new.client (t ∷ before)) (handled (port_of terms r.order.new) (t ∷ before)) (outstanding terms (port_of terms r.order.new) (t ∷ before)) (reports_in (t ∷ before)) (1_000_000 * length (t ∷ before)) r.order r.fits;
-  well = subst (λ (x : Entry). t.client ≡ x.client → ReadsWell x.order x.message (old_ids x.client (accepted terms (t ∷ before))) (issued x.client before) t.bodies) (sym r.same) well;
-  pending = pending-of terms (accepted terms (t ∷ before)) (orders_numbered (t ∷ before)) (issued r.order.new.client (t ∷ before)) (handled (port_of terms r.order.new) (t ∷ before)) (outstanding terms (port_of terms r.order.new) (t ∷ before)) (reports_in (t ∷ before)) (1_000_000 * length (t ∷ before)) r.order r.fits;
+  agree = agree-so terms (accepted terms (t ∷ before)) (orders_numbered (t ∷ before))
+      (issued r.order.new.client (t ∷ before)) (handled (port_of terms r.order.new) (t ∷ before))
+      (outstanding terms (port_of terms r.order.new) (t ∷ before)) (reports_in (t ∷ before))
+      (1_000_000 * length (t ∷ before)) r.order r.fits;
+  well = subst (λ (x : Entry). t.client ≡ x.client
+      → ReadsWell x.order x.message (old_ids x.client (accepted terms (t ∷ before))) (issued x.client before) t.bodies)
+      (sym r.same) well;
+  pending = pending-of terms (accepted terms (t ∷ before)) (orders_numbered (t ∷ before))
+      (issued r.order.new.client (t ∷ before)) (handled (port_of terms r.order.new) (t ∷ before))
+      (outstanding terms (port_of terms r.order.new) (t ∷ before)) (reports_in (t ∷ before))
+      (1_000_000 * length (t ∷ before)) r.order r.fits;
 })

@@ -61,20 +61,29 @@ token-number e some = by_token e.token refl some
     by_token None is some = absurd (cc)
     by_token (Some n) is some = (n, is)
 
-pub token-of : (terms : List Terms) (before : OrderHistory) (port : ℕ) (token : List ℕ) (new : Entry) → Holds terms before → order_of_token terms port (accepted terms before) token ≡ Some new → IsToken terms before port token new
+pub token-of : (terms : List Terms) (before : OrderHistory) (port : ℕ) (token : List ℕ) (new : Entry)
+    → Holds terms before → order_of_token terms port (accepted terms before) token ≡ Some new
+    → IsToken terms before port token new
 token-of terms before port token new H on = by_found (find (has_token terms port token) (accepted terms before)) refl on
   where
-    entry-token : (e : Entry) → new_of e.order (accepted terms before) ≡ Some new → has_token terms port token e ≡ true → IsEntry terms (accepted terms before) (orders_numbered before) e → IsToken terms before port token new
+    entry-token : (e : Entry) → new_of e.order (accepted terms before) ≡ Some new → has_token terms port token e ≡ true
+        → IsEntry terms (accepted terms before) (orders_numbered before) e → IsToken terms before port token new
     entry-token e found has i =
-        let parts = and-parts (is_some e.token) ((terms_of terms e.client).port == port && bytes_eq (token_of e) token) has in
+        let parts = and-parts (is_some e.token) ((terms_of terms e.client).port == port && bytes_eq (token_of e) token)
+        has in
         let rest = and-parts ((terms_of terms e.client).port == port) (bytes_eq (token_of e) token) parts.1 in
         let n = token-number e parts.0 in
         let same_new : i.new ≡ new = same_some i.new new (sym i.found ∙ found) in
-        let own_order : new.order ≡ e.order = eq-is new.order e.order (and-parts (bytes_eq new.order e.order) (is_new_order new.message) (found-passes (λ (x : Entry). bytes_eq x.order e.order && is_new_order x.message) (accepted terms before) new found)).0 in
+        let own_order : new.order ≡ e.order = eq-is new.order e.order
+        (and-parts (bytes_eq new.order e.order) (is_new_order new.message)
+        (found-passes (λ (x : Entry). bytes_eq x.order e.order && is_new_order x.message)
+        (accepted terms before) new found)).0 in
         record {
           entry = e;
           found = found;
-          on_port = ap (λ (x : Entry). (terms_of terms x.client).port) (sym same_new) ∙ ap (λ (c : ℕ). (terms_of terms c).port) i.same_client ∙ eqb-true (terms_of terms e.client).port port rest.0;
+          on_port = ap (λ (x : Entry). (terms_of terms x.client).port) (sym same_new)
+              ∙ ap (λ (c : ℕ). (terms_of terms c).port) i.same_client
+              ∙ eqb-true (terms_of terms e.client).port port rest.0;
           number = n.0;
           is_text = sym (eq-is (token_of e) token rest.1) ∙ ap (λ (x : Option ℕ). token_text (unwrap_or x 0)) n.1;
           is_given = (i.is_given n.0 n.1).1;
@@ -83,17 +92,24 @@ token-of terms before port token new H on = by_found (find (has_token terms port
           is_numbered = i.is_numbered;
         }
 
-    by_found : (x : Option Entry) → find (has_token terms port token) (accepted terms before) ≡ x → order_of_token terms port (accepted terms before) token ≡ Some new → IsToken terms before port token new
+    by_found : (x : Option Entry) → find (has_token terms port token) (accepted terms before) ≡ x
+        → order_of_token terms port (accepted terms before) token ≡ Some new → IsToken terms before port token new
     by_found None f on = absurd (let x : ◌≡◌ {A = Option Entry} None (Some new) = rw f at on in cc)
-    by_found (Some e) f on = entry-token e (rw f at on) (found-passes (has_token terms port token) (accepted terms before) e f) (each-find (IsEntry terms (accepted terms before) (orders_numbered before)) (has_token terms port token) (accepted terms before) e H.entries f)
+    by_found (Some e) f on = entry-token e (rw f at on)
+        (found-passes (has_token terms port token) (accepted terms before) e f)
+        (each-find (IsEntry terms (accepted terms before) (orders_numbered before)) (has_token terms port token)
+        (accepted terms before) e H.entries f)
 
 -- ---- cancels of an order, among all that is asked
 
-any-own : (P : Asked → Bool) (k : List ℕ) (asked : List Asked) → list_any (λ (a : Asked). bytes_eq a.order k && P a) asked ≡ list_any P (own k asked)
+any-own : (P : Asked → Bool) (k : List ℕ) (asked : List Asked)
+    → list_any (λ (a : Asked). bytes_eq a.order k && P a) asked ≡ list_any P (own k asked)
 any-own P k [] = refl
 any-own P k (a ∷ asked) = by_test (bytes_eq a.order k) (any-own P k asked)
   where
-    by_test : (b : Bool) → list_any (λ (a : Asked). bytes_eq a.order k && P a) asked ≡ list_any P (own k asked) → ((b && P a) || list_any (λ (a : Asked). bytes_eq a.order k && P a) asked) ≡ list_any P (if b then a ∷ own k asked else own k asked)
+    by_test : (b : Bool) → list_any (λ (a : Asked). bytes_eq a.order k && P a) asked ≡ list_any P (own k asked)
+        → ((b && P a) || list_any (λ (a : Asked). bytes_eq a.order k && P a) asked)
+        ≡ list_any P (if b then a ∷ own k asked else own k asked)
     by_test true e = ap (λ (r : Bool). P a || r) e
     by_test false e = e
 
@@ -102,17 +118,26 @@ any-same P Q [] same = refl
 any-same P Q (x ∷ xs) same = rw (same x, any-same P Q xs same) refl
 
 -- of the order's own, what answers it is told by the tokens of its replaces
-own-answer : (k : List ℕ) (m : Outbound) (asked : List Asked) (a : Asked) → ((bytes_eq a.order k && is_cancel_said a.said) && not (is_answered m asked a)) ≡ (bytes_eq a.order k && (is_cancel_said a.said && not (answers m (next_tokens k asked) a.said)))
+own-answer : (k : List ℕ) (m : Outbound) (asked : List Asked) (a : Asked)
+    → ((bytes_eq a.order k && is_cancel_said a.said) && not (is_answered m asked a))
+    ≡ (bytes_eq a.order k && (is_cancel_said a.said && not (answers m (next_tokens k asked) a.said)))
 own-answer k m asked a = by_order (bytes_eq a.order k) refl
   where
-    by_order : (b : Bool) → bytes_eq a.order k ≡ b → ((b && is_cancel_said a.said) && not (is_answered m asked a)) ≡ (b && (is_cancel_said a.said && not (answers m (next_tokens k asked) a.said)))
-    by_order true same = ap (λ (i : List ℕ). is_cancel_said a.said && not (answers m (next_tokens i asked) a.said)) (eq-is a.order k same)
+    by_order : (b : Bool) → bytes_eq a.order k ≡ b
+        → ((b && is_cancel_said a.said) && not (is_answered m asked a))
+        ≡ (b && (is_cancel_said a.said && not (answers m (next_tokens k asked) a.said)))
+    by_order true same = ap (λ (i : List ℕ). is_cancel_said a.said && not (answers m (next_tokens i asked) a.said))
+        (eq-is a.order k same)
     by_order false other = refl
 
-last-cancel : (k : List ℕ) (m : Outbound) (asked : List Asked) → answers_last_cancel k m asked ≡ answers_last m (next_tokens k asked) (own k asked)
+last-cancel : (k : List ℕ) (m : Outbound) (asked : List Asked)
+    → answers_last_cancel k m asked ≡ answers_last m (next_tokens k asked) (own k asked)
 last-cancel k m asked =
     let first = any-own (λ (a : Asked). is_cancel_said a.said) k asked in
-    let second = any-same (λ (a : Asked). (bytes_eq a.order k && is_cancel_said a.said) && not (is_answered m asked a)) (λ (a : Asked). bytes_eq a.order k && (is_cancel_said a.said && not (answers m (next_tokens k asked) a.said))) asked (own-answer k m asked) ∙ any-own (λ (a : Asked). is_cancel_said a.said && not (answers m (next_tokens k asked) a.said)) k asked in
+    let second = any-same (λ (a : Asked). (bytes_eq a.order k && is_cancel_said a.said) && not (is_answered m asked a))
+    (λ (a : Asked). bytes_eq a.order k && (is_cancel_said a.said && not (answers m (next_tokens k asked) a.said)))
+    asked (own-answer k m asked) ∙ any-own (λ (a : Asked). is_cancel_said a.said
+    && not (answers m (next_tokens k asked) a.said)) k asked in
     rw (first, second) refl
 
 -- ---- what is issued
@@ -125,10 +150,16 @@ pub record IsIssued (new : Entry) (bodies B : List Message) (client : ℕ) : Typ
   pub mine : (sent : List Message) → issued_then client bodies new.client sent ≡ onto B sent
   pub others : (c : ℕ) → new.client ≢ c → (sent : List Message) → issued_then client bodies c sent ≡ sent
 
-told-issued : (new : Entry) (B : List Message) (client : ℕ) (bodies : List Message) → told_of_entry new B ≡ record { client = client; bodies = bodies } → IsIssued new bodies B client
+told-issued : (new : Entry) (B : List Message) (client : ℕ) (bodies : List Message)
+    → told_of_entry new B ≡ record { client = client; bodies = bodies } → IsIssued new bodies B client
 told-issued new [] client bodies e =
     let none : bodies ≡ [] = ap (λ (x : Told). x.bodies) (sym e) in
-    record { all = none; mine = λ sent. rw none (nothing (client == new.client) sent); others = λ c apart sent. rw none (nothing (client == c) sent) }
+    record {
+      all = none;
+      mine = λ sent. rw none (nothing (client == new.client) sent);
+      others =
+          λ c apart sent. rw none (nothing (client == c) sent);
+    }
   where
     nothing : (b : Bool) (sent : List Message) → (if b then reverse [] ++ sent else sent) ≡ sent
     nothing true sent = refl
@@ -144,7 +175,8 @@ told-issued new (r ∷ rs) client bodies e =
 
 -- ---- the turn
 
-module _ (terms : List Terms) (before : OrderHistory) (port : ℕ) (m : Outbound) (token : List ℕ) (client : ℕ) (bodies : List Message) (sends : List (List ℕ)) (H : Holds terms before)
+module _ (terms : List Terms) (before : OrderHistory) (port : ℕ) (m : Outbound) (token : List ℕ) (client : ℕ)
+    (bodies : List Message) (sends : List (List ℕ)) (H : Holds terms before)
     (has : order_token m ≡ Some token) (judged : judgement terms port (Ok m) before ≡ None)
     (tells : told terms (Heard port (Ok m)) before ≡ record { client = client; bodies = bodies })
     (short : length before < 2 ^ 59) (reports_small : reports_in before < 10 ^ 64)
@@ -156,13 +188,25 @@ module _ (terms : List Terms) (before : OrderHistory) (port : ℕ) (m : Outbound
   A = accepted terms before
 
   lived-on : life_of o.new.order A (handled port before) ≡ record_life o
-  lived-on = subst (λ (p : ℕ). life_of o.new.order A (handled p before) ≡ record_life o) own_port (life-of terms A (orders_numbered before) (issued o.new.client before) (handled (port_of terms o.new) before) (outstanding terms (port_of terms o.new) before) (reports_in before) (1_000_000 * length before) o f)
+  lived-on = subst (λ (p : ℕ). life_of o.new.order A (handled p before) ≡ record_life o) own_port
+      (life-of terms A (orders_numbered before) (issued o.new.client before) (handled (port_of terms o.new) before)
+      (outstanding terms (port_of terms o.new) before) (reports_in before) (1_000_000 * length before) o f)
 
   row : row_holds m (record_life o) o.new (replacements o.replaces) ≡ true
   row =
-      let first : row_holds m (life_of o.new.order A (handled port before)) o.new (pending_tokens o.new.client (chain o.new.order (issued o.new.client before)) A) ≡ true = subst (λ (e : Entry). row_holds m (life_of e.order A (handled port before)) e (pending_tokens e.client (chain e.order (issued e.client before)) A) ≡ true) (sym same_new) l.row in
-      let second : row_holds m (record_life o) o.new (pending_tokens o.new.client (chain o.new.order (issued o.new.client before)) A) ≡ true = ap (λ (x : Life). row_holds m x o.new (pending_tokens o.new.client (chain o.new.order (issued o.new.client before)) A)) (sym lived-on) ∙ first in
-      let tokens : pending_tokens o.new.client (chain o.new.order (issued o.new.client before)) A ≡ replacements o.replaces = ap (λ (y : Rattle.order_law.specs.Chain.Chain). pending_tokens o.new.client y A) f.reads.chained_so ∙ tokens-are terms A (orders_numbered before) (issued o.new.client before) (handled (port_of terms o.new) before) (outstanding terms (port_of terms o.new) before) (reports_in before) (1_000_000 * length before) o f in
+      let first : row_holds m (life_of o.new.order A (handled port before)) o.new
+      (pending_tokens o.new.client (chain o.new.order (issued o.new.client before)) A) ≡ true =
+      subst (λ (e : Entry). row_holds m (life_of e.order A (handled port before)) e
+      (pending_tokens e.client (chain e.order (issued e.client before)) A) ≡ true) (sym same_new) l.row in
+      let second : row_holds m (record_life o) o.new
+      (pending_tokens o.new.client (chain o.new.order (issued o.new.client before)) A) ≡ true =
+      ap (λ (x : Life). row_holds m x o.new (pending_tokens o.new.client
+      (chain o.new.order (issued o.new.client before)) A)) (sym lived-on) ∙ first in
+      let tokens : pending_tokens o.new.client (chain o.new.order (issued o.new.client before)) A
+      ≡ replacements o.replaces = ap (λ (y : Rattle.order_law.specs.Chain.Chain). pending_tokens o.new.client y A)
+      f.reads.chained_so ∙ tokens-are terms A (orders_numbered before) (issued o.new.client before)
+      (handled (port_of terms o.new) before) (outstanding terms (port_of terms o.new) before) (reports_in before)
+      (1_000_000 * length before) o f in
       ap (λ (ts : List (List ℕ)). row_holds m (record_life o) o.new ts) (sym tokens) ∙ second
 
   -- the order that the message is on
@@ -174,7 +218,8 @@ module _ (terms : List Terms) (before : OrderHistory) (port : ℕ) (m : Outbound
 
   -- what holds of a pending replace
   abbrev IsKnown : Entry → Type 0
-  IsKnown q = IsHome terms A o.new (token_of q) × IsFound A o.new q × IsUsed (issued o.new.client before) (Rattle.fix_fields.specs.Field.text 11 q.message)
+  IsKnown q = IsHome terms A o.new (token_of q) × IsFound A o.new q
+      × IsUsed (issued o.new.client before) (Rattle.fix_fields.specs.Field.text 11 q.message)
 
   -- each of its tokens leads to that order
   on-all : Each Leads (tokens_in m)
@@ -183,13 +228,19 @@ module _ (terms : List Terms) (before : OrderHistory) (port : ℕ) (m : Outbound
       one : (x : List ℕ) → x ≡ token → Leads x
       one x same = subst Leads (sym same) on'
 
-      by_message : (k : Outbound) → order_token k ≡ Some token → row_holds k (record_life o) o.new (replacements o.replaces) ≡ true → Each Leads (tokens_in k)
+      by_message : (k : Outbound) → order_token k ≡ Some token
+          → row_holds k (record_life o) o.new (replacements o.replaces) ≡ true → Each Leads (tokens_in k)
       by_message (market.Replaced k) has may =
-          let parts = and-parts (works_as (record_life o) k.previous_token) (is_first k.token (replacements o.replaces) && same_terms k.side k.stock o.new) may in
-          let asked = oldest-is o.replaces k.token (and-parts (is_first k.token (replacements o.replaces)) (same_terms k.side k.stock o.new) parts.1).0 in
+          let parts = and-parts (works_as (record_life o) k.previous_token)
+          (is_first k.token (replacements o.replaces) && same_terms k.side k.stock o.new) may in
+          let asked = oldest-is o.replaces k.token (and-parts (is_first k.token (replacements o.replaces))
+          (same_terms k.side k.stock o.new) parts.1).0 in
           let homes = subst (Each IsKnown) asked.2 f.holds.replaces in
-          let home = homes.0.0 in
-          (ap (order_of_token terms port A) asked.3 ∙ subst (λ (p : ℕ). order_of_token terms p A (token_of asked.0) ≡ Some o.new) own_port home.mine, (one k.previous_token (cc), tt))
+          let home = homes.0.0 in (
+            ap (order_of_token terms port A) asked.3
+                ∙ subst (λ (p : ℕ). order_of_token terms p A (token_of asked.0) ≡ Some o.new) own_port home.mine,
+            (one k.previous_token (cc), tt),
+          )
       by_message (market.Accepted k) has may = (one k.token (cc), tt)
       by_message (market.Canceled k) has may = (one k.token (cc), tt)
       by_message (market.Executed k) has may = (one k.token (cc), tt)
@@ -201,32 +252,46 @@ module _ (terms : List Terms) (before : OrderHistory) (port : ℕ) (m : Outbound
       by_message market.Skipped has may = tt
 
   abbrev pub B : List Message
-  B = told_by (reports_in before) m (record_life o) (answers_last m (replacements o.replaces) (asked_as terms o)) (map fill_of o.trades) (shown_as o)
+  B = told_by (reports_in before) m (record_life o) (answers_last m (replacements o.replaces) (asked_as terms o))
+      (map fill_of o.trades) (shown_as o)
 
-  asked-own : answers_last_cancel o.new.order m (outstanding terms port before) ≡ answers_last m (replacements o.replaces) (asked_as terms o)
+  asked-own : answers_last_cancel o.new.order m (outstanding terms port before)
+      ≡ answers_last m (replacements o.replaces) (asked_as terms o)
   asked-own =
-      (let mine : own o.new.order (outstanding terms port before) ≡ asked_as terms o = subst (λ (p : ℕ). own o.new.order (outstanding terms p before) ≡ asked_as terms o) own_port f.asked_so in
+      (let mine : own o.new.order (outstanding terms port before) ≡ asked_as terms o =
+      subst (λ (p : ℕ). own o.new.order (outstanding terms p before) ≡ asked_as terms o) own_port f.asked_so in
       last-cancel o.new.order m (outstanding terms port before)
       ∙ ap (answers_last m (next_tokens o.new.order (outstanding terms port before))) mine
-      ∙ ap (λ (next : List (List ℕ)). answers_last m next (asked_as terms o)) (next-own terms o (outstanding terms port before) mine))
+      ∙ ap (λ (next : List (List ℕ)). answers_last m next (asked_as terms o))
+      (next-own terms o (outstanding terms port before) mine))
 
   fills-own : (reading o.new.order (issued o.new.client before)).fills ≡ map fill_of o.trades
   fills-own = ap (λ (x : Reading). x.fills) f.reads.read_so
 
   shown-own : shown terms before o.new ≡ shown_as o
-  shown-own = shown-is terms before (orders_numbered before) (outstanding terms (port_of terms o.new) before) (reports_in before) (1_000_000 * length before) o f
+  shown-own = shown-is terms before (orders_numbered before) (outstanding terms (port_of terms o.new) before)
+      (reports_in before) (1_000_000 * length before) o f
 
-  told-all : told_by (reports_in before) m (life_of o.new.order A (handled port before)) (answers_last_cancel o.new.order m (outstanding terms port before)) (reading o.new.order (issued o.new.client before)).fills (shown terms before o.new) ≡ B
+  told-all : told_by (reports_in before) m (life_of o.new.order A (handled port before))
+      (answers_last_cancel o.new.order m (outstanding terms port before))
+      (reading o.new.order (issued o.new.client before)).fills (shown terms before o.new) ≡ B
   told-all =
-      ap (λ (x : Life). told_by (reports_in before) m x (answers_last_cancel o.new.order m (outstanding terms port before)) (reading o.new.order (issued o.new.client before)).fills (shown terms before o.new)) lived-on
-      ∙ ap (λ (b : Bool). told_by (reports_in before) m (record_life o) b (reading o.new.order (issued o.new.client before)).fills (shown terms before o.new)) asked-own
-      ∙ ap (λ (fs : List Fill). told_by (reports_in before) m (record_life o) (answers_last m (replacements o.replaces) (asked_as terms o)) fs (shown terms before o.new)) fills-own
-      ∙ ap (λ (s : Shown). told_by (reports_in before) m (record_life o) (answers_last m (replacements o.replaces) (asked_as terms o)) (map fill_of o.trades) s) shown-own
+      ap (λ (x : Life). told_by (reports_in before) m x
+      (answers_last_cancel o.new.order m (outstanding terms port before))
+      (reading o.new.order (issued o.new.client before)).fills (shown terms before o.new)) lived-on
+      ∙ ap (λ (b : Bool). told_by (reports_in before) m (record_life o) b
+      (reading o.new.order (issued o.new.client before)).fills (shown terms before o.new)) asked-own
+      ∙ ap (λ (fs : List Fill). told_by (reports_in before) m (record_life o)
+      (answers_last m (replacements o.replaces) (asked_as terms o)) fs (shown terms before o.new)) fills-own
+      ∙ ap (λ (s : Shown). told_by (reports_in before) m (record_life o)
+      (answers_last m (replacements o.replaces) (asked_as terms o)) (map fill_of o.trades) s) shown-own
 
   pub told-to : told_of_entry o.new B ≡ record { client = client; bodies = bodies }
   told-to =
-      let on_order : told_on terms port m before (order_of_token terms port A token) ≡ told_of_entry o.new B = ap (told_on terms port m before) on' ∙ ap (told_of_entry o.new) told-all in
-      let by_row : told terms (Heard port (Ok m)) before ≡ told_on terms port m before (order_of_token terms port A token) = rw (judged, has) refl in
+      let on_order : told_on terms port m before (order_of_token terms port A token) ≡ told_of_entry o.new B =
+      ap (told_on terms port m before) on' ∙ ap (told_of_entry o.new) told-all in
+      let by_row : told terms (Heard port (Ok m)) before
+      ≡ told_on terms port m before (order_of_token terms port A token) = rw (judged, has) refl in
       sym on_order ∙ sym by_row ∙ tells
 
   said : IsIssued o.new bodies B client
@@ -239,7 +304,8 @@ module _ (terms : List Terms) (before : OrderHistory) (port : ℕ) (m : Outbound
   issued-other c apart = said.others c apart (issued c before)
 
   on-order : Each (IsOn o.new.order) B
-  on-order = told-on (reports_in before) m (record_life o) (answers_last m (replacements o.replaces) (asked_as terms o)) (map fill_of o.trades) (shown_as o)
+  on-order = told-on (reports_in before) m (record_life o) (answers_last m (replacements o.replaces) (asked_as terms o))
+      (map fill_of o.trades) (shown_as o)
 
   -- ---- the order itself
 
@@ -247,15 +313,19 @@ module _ (terms : List Terms) (before : OrderHistory) (port : ℕ) (m : Outbound
   Homes = IsHome terms A o.new
 
   abbrev MovesTo : OrderRecord → Type 0
-  MovesTo p = Moves Homes (IsFound A o.new) (IsUsed (issued o.new.client before)) terms (old_ids o.new.client A) (issued o.new.client before) (reports_in before) (1_000_000 * length before) 1_000_000 m o p
+  MovesTo p = Moves Homes (IsFound A o.new) (IsUsed (issued o.new.client before)) terms (old_ids o.new.client A)
+      (issued o.new.client before) (reports_in before) (1_000_000 * length before) 1_000_000 m o p
 
   abbrev next : OrderRecord
   next = after_message (reports_in before) m o
 
   moves : MovesTo next
-  moves = row-moves Homes (IsFound A o.new) (IsUsed (issued o.new.client before)) terms (old_ids o.new.client A) (issued o.new.client before) (reports_in before) (1_000_000 * length before) o
+  moves = row-moves Homes (IsFound A o.new) (IsUsed (issued o.new.client before)) terms (old_ids o.new.client A)
+      (issued o.new.client before) (reports_in before) (1_000_000 * length before) o
       reports_small (omega arith) f.keeps
-      (named terms A (orders_numbered before) (issued o.new.client before) (handled (port_of terms o.new) before) (outstanding terms (port_of terms o.new) before) (reports_in before) (1_000_000 * length before) o f) f.reads m row
+      (named terms A (orders_numbered before) (issued o.new.client before) (handled (port_of terms o.new) before)
+      (outstanding terms (port_of terms o.new) before) (reports_in before) (1_000_000 * length before) o f) f.reads
+      m row
 
   handled-own : handled (port_of terms o.new) (t ∷ before) ≡ m ∷ handled (port_of terms o.new) before
   handled-own = rw (eq-eqb port (port_of terms o.new) (sym own_port)) refl
@@ -268,25 +338,35 @@ module _ (terms : List Terms) (before : OrderHistory) (port : ℕ) (m : Outbound
     p = record q { new = o.new }
 
     life-now : life_of o.new.order A (handled (port_of terms o.new) (t ∷ before)) ≡ record_life p
-    life-now = rw f.known (ap (life (token_of o.new) (character 54 o.new.message)) handled-own ∙ ap (λ (x : Life). after x m) f.lives ∙ M.lives)
+    life-now = rw f.known (ap (life (token_of o.new) (character 54 o.new.message)) handled-own
+        ∙ ap (λ (x : Life). after x m) f.lives ∙ M.lives)
 
     reports-now : count_by is_report B + reports_in before ≤ reports_in (t ∷ before)
-    reports-now = let same : count_by is_report bodies ≡ count_by is_report B = ap (count_by is_report) said.all in omega (arith, same)
+    reports-now = let same : count_by is_report bodies ≡ count_by is_report B = ap (count_by is_report) said.all in
+        omega (arith, same)
 
     keeps-now : Keeps (reports_in (t ∷ before)) (1_000_000 * length (t ∷ before)) p
-    keeps-now = Keeps-more (reports_in (t ∷ before)) (1_000_000 * length before + 1_000_000) (reports_in (t ∷ before)) (1_000_000 * length (t ∷ before)) p (omega arith) (omega arith) (M.keeps (reports_in (t ∷ before)) reports-now)
+    keeps-now = Keeps-more (reports_in (t ∷ before)) (1_000_000 * length before + 1_000_000) (reports_in (t ∷ before))
+        (1_000_000 * length (t ∷ before)) p (omega arith) (omega arith) (M.keeps (reports_in (t ∷ before)) reports-now)
 
     moved-fits : FitsIn terms (t ∷ before) p
     moved-fits = record {
       reads = subst (λ (xs : List Message). Reads xs p) (sym issued-mine) M.leads.reads;
-      lives = ap (life (token_of o.new) (character 54 o.new.message)) handled-own ∙ ap (λ (x : Life). after x m) f.lives ∙ M.lives;
+      lives = ap (life (token_of o.new) (character 54 o.new.message)) handled-own ∙ ap (λ (x : Life). after x m) f.lives
+          ∙ M.lives;
       priced = ap (price_after o.new A) handled-own
-          ∙ ap (λ (x : Life). priced m x (price_after o.new A (handled (port_of terms o.new) before))) (life-of terms A (orders_numbered before) (issued o.new.client before) (handled (port_of terms o.new) before) (outstanding terms (port_of terms o.new) before) (reports_in before) (1_000_000 * length before) o f)
+          ∙ ap (λ (x : Life). priced m x (price_after o.new A (handled (port_of terms o.new) before)))
+          (life-of terms A (orders_numbered before) (issued o.new.client before)
+          (handled (port_of terms o.new) before) (outstanding terms (port_of terms o.new) before)
+          (reports_in before) (1_000_000 * length before) o f)
           ∙ ap (λ (n : ℕ). priced m (record_life o) n) f.priced ∙ M.price;
-      asked_so = asked-as terms before port m client bodies sends H o p (port_of terms o.new) f.asked_so life-now (λ e. closed-asked terms (reports_in (t ∷ before)) (1_000_000 * length (t ∷ before)) p keeps-now e) M.asked;
+      asked_so = asked-as terms before port m client bodies sends H o p (port_of terms o.new) f.asked_so life-now
+          (λ e. closed-asked terms (reports_in (t ∷ before)) (1_000_000 * length (t ∷ before)) p keeps-now e) M.asked;
       keeps = keeps-now;
-      holds = Of-used Homes (IsFound A o.new) (IsUsed (issued o.new.client before)) (IsUsed (issued o.new.client (t ∷ before))) p
-          (λ id used. subst (λ (xs : List Message). is_used id xs ≡ true) (sym issued-mine) (used-onto id B (issued o.new.client before) used)) (M.kept f.holds);
+      holds = Of-used Homes (IsFound A o.new) (IsUsed (issued o.new.client before))
+          (IsUsed (issued o.new.client (t ∷ before))) p
+          (λ id used. subst (λ (xs : List Message). is_used id xs ≡ true) (sym issued-mine)
+          (used-onto id B (issued o.new.client before) used)) (M.kept f.holds);
       known = f.known;
       is_new = f.is_new;
       number = f.number;
@@ -297,60 +377,87 @@ module _ (terms : List Terms) (before : OrderHistory) (port : ℕ) (m : Outbound
     own-record : HasRecord terms (t ∷ before) o.new
     own-record = record { order = p; same = refl; fits = moved-fits }
 
-    own-well : ReadsWell o.new.order o.new.message (old_ids o.new.client (accepted terms (t ∷ before))) (issued o.new.client before) bodies
-    own-well = subst (λ (xs : List Message). ReadsWell o.new.order o.new.message (old_ids o.new.client A) (issued o.new.client before) xs) (sym said.all) M.leads.well
+    own-well : ReadsWell o.new.order o.new.message (old_ids o.new.client (accepted terms (t ∷ before)))
+        (issued o.new.client before) bodies
+    own-well = subst (λ (xs : List Message). ReadsWell o.new.order o.new.message (old_ids o.new.client A)
+        (issued o.new.client before) xs) (sym said.all) M.leads.well
 
   -- ---- other orders
 
   -- what holds of a client's list and stays so with bodies on this order holds after the turn
-  issued-keeps : (P : List Message → Type 0) (c : ℕ) (k : List ℕ) → bytes_eq o.new.order k ≡ false → ((r : Message) (xs : List Message) → is 37 k r ≡ false → P xs → P (r ∷ xs)) → P (issued c before) → P (issued c (t ∷ before))
+  issued-keeps : (P : List Message → Type 0) (c : ℕ) (k : List ℕ) → bytes_eq o.new.order k ≡ false
+      → ((r : Message) (xs : List Message) → is 37 k r ≡ false → P xs → P (r ∷ xs)) → P (issued c before)
+      → P (issued c (t ∷ before))
   issued-keeps P c k apart more old = by_client (o.new.client == c) refl
     where
       by_client : (b : Bool) → (o.new.client == c) ≡ b → P (issued c (t ∷ before))
       by_client true e =
           let same : o.new.client ≡ c = eqb-true o.new.client c e in
-          subst (λ (d : ℕ). P (issued d (t ∷ before))) same (subst P (sym issued-mine) (others-onto k B (issued o.new.client before) (on-others o.new.order k B apart on-order) P more (subst (λ (d : ℕ). P (issued d before)) (sym same) old)))
-      by_client false e = subst P (sym (issued-other c (λ same. (let yes_it : (o.new.client == c) ≡ true = eq-eqb o.new.client c same in let x : true ≡ false = sym yes_it ∙ e in cc)))) old
+          subst (λ (d : ℕ). P (issued d (t ∷ before))) same
+          (subst P (sym issued-mine) (others-onto k B (issued o.new.client before)
+          (on-others o.new.order k B apart on-order) P more
+          (subst (λ (d : ℕ). P (issued d before)) (sym same) old)))
+      by_client false e = subst P (sym (issued-other c
+          (λ same. (let yes_it : (o.new.client == c) ≡ true = eq-eqb o.new.client c same in let x : true ≡ false =
+          sym yes_it ∙ e in cc)))) old
 
   module _ (x : OrderRecord) (g : FitsIn terms before x) (apart : bytes_eq o.new.order x.new.order ≡ false) where
     other-reads : Reads (issued x.new.client (t ∷ before)) x
-    other-reads = issued-keeps (λ xs. Reads xs x) x.new.client x.new.order apart (λ r xs off reads. Reads-others x (r ∷ []) xs (off, tt) reads) g.reads
+    other-reads = issued-keeps (λ xs. Reads xs x) x.new.client x.new.order apart
+        (λ r xs off reads. Reads-others x (r ∷ []) xs (off, tt) reads) g.reads
 
-    other-used : (id : List ℕ) → is_used id (issued x.new.client before) ≡ true → is_used id (issued x.new.client (t ∷ before)) ≡ true
-    other-used id used = issued-keeps (λ xs. is_used id xs ≡ true) x.new.client x.new.order apart (λ r xs off e. rw e (Rattle.order_machine.proofs.Texts.or-true (is 11 id r))) used
+    other-used : (id : List ℕ) → is_used id (issued x.new.client before) ≡ true
+        → is_used id (issued x.new.client (t ∷ before)) ≡ true
+    other-used id used = issued-keeps (λ xs. is_used id xs ≡ true) x.new.client x.new.order apart
+        (λ r xs off e. rw e (Rattle.order_machine.proofs.Texts.or-true (is 11 id r))) used
 
     pub other-fits : FitsIn terms (t ∷ before) x
     other-fits = untouched-fits terms before port m client bodies sends H x g
         (other-untouched terms A (issued x.new.client before) x g.holds g.keeps.first g.keeps.left m
-        (λ y home. Each-map Leads (λ (own_token : List ℕ). bytes_eq own_token y ≡ false) (tokens_in m) (λ own_token on. apart-home terms A port own_token o.new x.new on apart y home) on-all))
+        (λ y home. Each-map Leads (λ (own_token : List ℕ). bytes_eq own_token y ≡ false) (tokens_in m)
+        (λ own_token on. apart-home terms A port own_token o.new x.new on apart y home) on-all))
         other-reads other-used
 
-    other-well : ReadsWell x.new.order x.new.message (old_ids x.new.client (accepted terms (t ∷ before))) (issued x.new.client before) bodies
-    other-well = ReadsWell-others x.new.order x.new.message (old_ids x.new.client A) (issued x.new.client before) bodies (subst (Others x.new.order) (sym said.all) (on-others o.new.order x.new.order B apart on-order))
+    other-well : ReadsWell x.new.order x.new.message (old_ids x.new.client (accepted terms (t ∷ before)))
+        (issued x.new.client before) bodies
+    other-well = ReadsWell-others x.new.order x.new.message (old_ids x.new.client A) (issued x.new.client before) bodies
+        (subst (Others x.new.order) (sym said.all) (on-others o.new.order x.new.order B apart on-order))
 
   -- ---- numbers that aren't given yet
 
   fresh-order : (n : ℕ) → orders_numbered before < n → n < 10 ^ 64 → bytes_eq o.new.order (decimal n) ≡ false
-  fresh-order n above small = rw f.order_is (eq-decimal_other f.number n (λ same. (omega (arith, same, f.is_numbered, above))) (omega (arith, f.is_numbered, above, small)) small)
+  fresh-order n above small = rw f.order_is
+      (eq-decimal_other f.number n (λ same. (omega (arith, same, f.is_numbered, above)))
+      (omega (arith, f.is_numbered, above, small)) small)
 
-  fresh-token : (n : ℕ) → given_tokens A < n → n ≤ 9_999_999_999_999 → (token : List ℕ) → IsToken terms before port token o.new → bytes_eq token (token_text n) ≡ false
-  fresh-token n above most token k = eq-other token (token_text n) (λ same. (let alike : k.number ≡ n = token-same k.number n (omega (arith, k.is_given, H.short)) most (sym k.is_text ∙ same) in omega (arith, alike, k.is_given, above)))
+  fresh-token : (n : ℕ) → given_tokens A < n → n ≤ 9_999_999_999_999 → (token : List ℕ)
+      → IsToken terms before port token o.new → bytes_eq token (token_text n) ≡ false
+  fresh-token n above most token k = eq-other token (token_text n)
+      (λ same. (let alike : k.number ≡ n = token-same k.number n (omega (arith, k.is_given, H.short)) most
+      (sym k.is_text ∙ same) in omega (arith, alike, k.is_given, above)))
 
   born-on : (n side : ℕ) → given_tokens A < n → n ≤ 9_999_999_999_999 → PassesOver (token_text n) side m
   born-on n side above most = born-passes m (token_text n) side
-      (Each-map Leads (λ (own_token : List ℕ). bytes_eq own_token (token_text n) ≡ false) (tokens_in m) (λ own_token on. fresh-token n above most own_token (token-of terms before port own_token o.new H on)) on-all)
+      (Each-map Leads (λ (own_token : List ℕ). bytes_eq own_token (token_text n) ≡ false) (tokens_in m)
+      (λ own_token on. fresh-token n above most own_token (token-of terms before port own_token o.new H on)) on-all)
 
-  still-unheard : (n p side : ℕ) → given_tokens A < n → n ≤ 9_999_999_999_999 → Each (PassesOver (token_text n) side) (handled p (t ∷ before))
+  still-unheard : (n p side : ℕ) → given_tokens A < n → n ≤ 9_999_999_999_999
+      → Each (PassesOver (token_text n) side) (handled p (t ∷ before))
   still-unheard n p side above most = by_port (port == p)
     where
-      by_port : (b : Bool) → Each (PassesOver (token_text n) side) (if b && true then m ∷ handled p before else handled p before)
+      by_port : (b : Bool) → Each (PassesOver (token_text n) side)
+          (if b && true then m ∷ handled p before else handled p before)
       by_port true = (born-on n side above most, H.unheard n p side above most)
       by_port false = H.unheard n p side above most
 
-  still-unasked : (n p : ℕ) → orders_numbered before < n → n < 10 ^ 64 → own (decimal n) (outstanding terms p (t ∷ before)) ≡ []
-  still-unasked n p above small = asked-now terms before port m client bodies sends H (decimal n) p (is_closed (life_of (decimal n) A (handled p (t ∷ before))).stage) refl ∙ by_closed (is_closed (life_of (decimal n) A (handled p (t ∷ before))).stage)
+  still-unasked : (n p : ℕ) → orders_numbered before < n → n < 10 ^ 64
+      → own (decimal n) (outstanding terms p (t ∷ before)) ≡ []
+  still-unasked n p above small = asked-now terms before port m client bodies sends H (decimal n) p
+      (is_closed (life_of (decimal n) A (handled p (t ∷ before))).stage) refl
+      ∙ by_closed (is_closed (life_of (decimal n) A (handled p (t ∷ before))).stage)
     where
-      by_closed : (b : Bool) → (if b then [] else unanswered m (next_tokens (decimal n) (outstanding terms p before)) (own (decimal n) (outstanding terms p before))) ≡ []
+      by_closed : (b : Bool) → (if b then [] else unanswered m (next_tokens (decimal n) (outstanding terms p before))
+          (own (decimal n) (outstanding terms p before))) ≡ []
       by_closed true = refl
       by_closed false = rw (H.unasked n p above small) refl
 
@@ -381,11 +488,17 @@ module _ (terms : List Terms) (before : OrderHistory) (port : ℕ) (m : Outbound
       by_order : (b : Bool) → bytes_eq o.new.order r.order.new.order ≡ b → Both e
       by_order true same =
           let orders_same : o.new.order ≡ r.order.new.order = eq-is o.new.order r.order.new.order same in
-          let it : o.new ≡ e = same_some o.new r.order.new (sym f.known ∙ ap (λ (k : List ℕ). new_of k A) orders_same ∙ r.fits.known) ∙ r.same in
+          let it : o.new ≡ e = same_some o.new r.order.new
+          (sym f.known ∙ ap (λ (k : List ℕ). new_of k A) orders_same ∙ r.fits.known) ∙ r.same in
           subst Both it (mine, true-of terms t before o.new mine (λ own_turn. own-well next still-moves))
       by_order false apart =
-          let has : HasRecord terms (t ∷ before) e = record { order = r.order; same = r.same; fits = other-fits r.order r.fits apart } in
-          (has, true-of terms t before e has (λ own_turn. subst (λ (x : Entry). ReadsWell x.order x.message (old_ids x.client (accepted terms (t ∷ before))) (issued x.client before) bodies) r.same (other-well r.order r.fits apart)))
+          let has : HasRecord terms (t ∷ before) e =
+          record { order = r.order; same = r.same; fits = other-fits r.order r.fits apart } in (
+            has,
+            true-of terms t before e has (λ own_turn. subst
+                (λ (x : Entry). ReadsWell x.order x.message (old_ids x.client (accepted terms (t ∷ before)))
+                (issued x.client before) bodies) r.same (other-well r.order r.fits apart)),
+          )
 
   all-orders : Each Both (news A)
   all-orders = Each-map (HasRecord terms before) Both (news A) each-order H.records
@@ -394,11 +507,23 @@ module _ (terms : List Terms) (before : OrderHistory) (port : ℕ) (m : Outbound
   lawful-Holds = (
     record {
       entries = Each-map (IsEntry terms A (orders_numbered before)) (IsEntry terms A (orders_numbered (t ∷ before))) A
-          (λ e i. record { new = i.new; found = i.found; same_client = i.same_client; is_given = i.is_given; number = i.number; order_is = i.order_is; is_numbered = omega (arith, i.is_numbered, count-same) }) H.entries;
+          (λ e i. record {
+            new = i.new;
+            found = i.found;
+            same_client = i.same_client;
+            is_given = i.is_given;
+            number =
+                i.number;
+            order_is = i.order_is;
+            is_numbered = omega (arith, i.is_numbered, count-same);
+          }) H.entries;
       short = H.short;
       records = Each-map Both (HasRecord terms (t ∷ before)) (news A) (λ e b. b.0) all-orders;
       listed = same-orders;
-      unread = λ n c above small. issued-keeps (λ xs. IsUnread (decimal n) xs) c (decimal n) (fresh-order n (omega (arith, above, count-same)) small) (λ r xs off u. IsUnread-others (decimal n) (r ∷ []) xs (off, tt) u) (H.unread n c (omega (arith, above, count-same)) small);
+      unread = λ n c above small. issued-keeps (λ xs. IsUnread (decimal n) xs) c (decimal n)
+          (fresh-order n (omega (arith, above, count-same)) small)
+          (λ r xs off u. IsUnread-others (decimal n) (r ∷ []) xs (off, tt) u)
+          (H.unread n c (omega (arith, above, count-same)) small);
       unheard = still-unheard;
       unasked = λ n p above small. still-unasked n p (omega (arith, above, count-same)) small;
       few = omega (arith, H.few, count-same);
@@ -412,5 +537,9 @@ module _ (terms : List Terms) (before : OrderHistory) (port : ℕ) (m : Outbound
           by_client : (b : Bool) → (o.new.client == c) ≡ b → orders (issued c (t ∷ before)) ≡ orders_of c A
           by_client true e =
               let same : o.new.client ≡ c = eqb-true o.new.client c e in
-              subst (λ (d : ℕ). orders (issued d (t ∷ before)) ≡ orders_of d A) same (ap orders issued-mine ∙ orders-onto o.new.order B (issued o.new.client before) on-order ∙ H.listed o.new.client)
-          by_client false e = ap orders (issued-other c (λ same. (let yes_it : (o.new.client == c) ≡ true = eq-eqb o.new.client c same in let x : true ≡ false = sym yes_it ∙ e in cc))) ∙ H.listed c
+              subst (λ (d : ℕ). orders (issued d (t ∷ before)) ≡ orders_of d A) same
+              (ap orders issued-mine ∙ orders-onto o.new.order B (issued o.new.client before) on-order
+              ∙ H.listed o.new.client)
+          by_client false e = ap orders (issued-other c
+              (λ same. (let yes_it : (o.new.client == c) ≡ true = eq-eqb o.new.client c same in let x : true ≡ false =
+              sym yes_it ∙ e in cc))) ∙ H.listed c

@@ -1,5 +1,6 @@
 -- Members of a list by their place, after a push and after a write.
-use Rattle.std.proofs.Common.{◌≡◌, suc, ◌+◌, Bool, true, false, List, [], ◌∷◌, ◌++◌, length, refl, sym, ap, ◌∙◌, arith, Some, None}
+use Rattle.std.proofs.Common.{◌≡◌, suc, ◌+◌, Bool, true, false, List, [], ◌∷◌, ◌++◌, length, refl, sym, ap, ◌∙◌, arith}
+use Rattle.std.proofs.Common.{Some, None}
 use Rattle.std.proofs.lemmas.List.Sums.{sum_by-append}
 use Rattle.std.specs.Prelude.{filter, if◌then◌else◌}
 use Rattle.std.specs.List.{count_by, find}
@@ -12,12 +13,14 @@ pub found-passes : {A : Type 0} (p : A → Bool) (xs : List A) (x : A) → find 
 found-passes p [] x h = absurd (cc)
 found-passes p (a ∷ xs) x h = by_test (p a) refl h (λ found. found-passes p xs x found)
   where
-    by_test : (b : Bool) → p a ≡ b → (if b then Some a else find p xs) ≡ Some x → (find p xs ≡ Some x → p x ≡ true) → p x ≡ true
+    by_test : (b : Bool) → p a ≡ b → (if b then Some a else find p xs) ≡ Some x → (find p xs ≡ Some x → p x ≡ true)
+        → p x ≡ true
     by_test true e found later = let same : a ≡ x = cc in ap p (sym same) ∙ e
     by_test false e found later = later found
 
 -- where no member passes, none is found
-pub none-found : {A : Type 0} (p : A → Bool) (P : A → Type 0) (xs : List A) → ((x : A) → P x → p x ≡ false) → Each P xs → find p xs ≡ None
+pub none-found : {A : Type 0} (p : A → Bool) (P : A → Type 0) (xs : List A) → ((x : A) → P x → p x ≡ false) → Each P xs
+    → find p xs ≡ None
 none-found p P [] fails each = refl
 none-found p P (x ∷ xs) fails each = rw (fails x each.0) (none-found p P xs fails each.1)
 
@@ -43,7 +46,8 @@ Each-filter P p (x ∷ xs) each = by_test (p x) (Each-filter P p xs each.1)
 
 -- ---- counts
 
-pub count-push : {A : Type 0} (p : A → Bool) (xs : List A) (x : A) → count_by p (xs ++ x ∷ []) ≡ count_by p xs + (if p x then 1 else 0)
+pub count-push : {A : Type 0} (p : A → Bool) (xs : List A) (x : A)
+    → count_by p (xs ++ x ∷ []) ≡ count_by p xs + (if p x then 1 else 0)
 count-push {A = A} p xs x = sum_by-append (λ (y : A). if p y then 1 else 0) xs (x ∷ []) ∙ omega arith
 
 pub length-push : {A : Type 0} (xs : List A) (x : A) → length (xs ++ x ∷ []) ≡ suc (length xs)

@@ -25,7 +25,8 @@ abbrev pub AreNumbered : ℕ → List ToldTrade → Type 0
 AreNumbered reports [] = Unit {0}
 AreNumbered reports (t ∷ ts) = (1 ≤ t.number) × (t.number ≤ reports) × AreNumbered (t.number - 1) ts
 
--- what each order keeps from turn to turn: so many reports were issued, and no order comes to more shares than the limit
+-- what each order keeps from turn to turn: so many reports were issued, and no order comes to more shares than the
+-- limit
 pub record Keeps (reports limit : ℕ) (o : OrderRecord) : Type 0 where
   pub sound : IsSound o
   pub apart : AreApart (pending o)
@@ -61,7 +62,8 @@ pub record Of (P : List ℕ → Type 0) (Q : Entry → Type 0) (R : List ℕ →
   pub id : R o.id
 
 -- of an order without requests
-pub Of-unasked : (P : List ℕ → Type 0) (Q : Entry → Type 0) (R : List ℕ → Type 0) (o p : OrderRecord) → p.tokens ≡ o.tokens → p.id ≡ o.id → p.replaces ≡ [] → p.cancel ≡ None → Of P Q R o → Of P Q R p
+pub Of-unasked : (P : List ℕ → Type 0) (Q : Entry → Type 0) (R : List ℕ → Type 0) (o p : OrderRecord)
+    → p.tokens ≡ o.tokens → p.id ≡ o.id → p.replaces ≡ [] → p.cancel ≡ None → Of P Q R o → Of P Q R p
 Of-unasked P Q R o p same same_id no_r no_c k = record {
   front = subst (λ (ts : List (List ℕ)). P (first_token ts)) (sym same) k.front;
   live = subst (λ (ts : List (List ℕ)). Each P ts) (sym same) k.live;
@@ -75,10 +77,13 @@ pub record Moves (P : List ℕ → Type 0) (Q : Entry → Type 0) (R : List ℕ 
   pub same : p.new ≡ o.new
   pub kept : Of P Q R o → Of P Q R p
   pub lives : after (record_life o) m ≡ record_life p
-  pub leads : Leads o.new old_id sent (told_by reports m (record_life o) (answers_last m (replacements o.replaces) (asked_as terms o)) (map fill_of o.trades) (shown_as o)) p (pending p)
+  pub leads : Leads o.new old_id sent (told_by reports m (record_life o)
+      (answers_last m (replacements o.replaces) (asked_as terms o)) (map fill_of o.trades) (shown_as o)) p (pending p)
   pub asked : is_closed p.stage ≡ false → unanswered m (replacements o.replaces) (asked_as terms o) ≡ asked_as terms p
   pub price : priced m (record_life o) o.price ≡ p.price
-  pub keeps : (after : ℕ) → count_by is_report (told_by reports m (record_life o) (answers_last m (replacements o.replaces) (asked_as terms o)) (map fill_of o.trades) (shown_as o)) + reports ≤ after → Keeps after (limit + more) p
+  pub keeps : (after : ℕ) → count_by is_report
+      (told_by reports m (record_life o) (answers_last m (replacements o.replaces) (asked_as terms o))
+      (map fill_of o.trades) (shown_as o)) + reports ≤ after → Keeps after (limit + more) p
 
 -- ---- what is asked
 
@@ -86,11 +91,19 @@ pub filter-all : {A : Type 0} (xs : List A) → filter (λ (x : A). true) xs ≡
 filter-all [] = refl
 filter-all (x ∷ xs) = ap (λ ys. x ∷ ys) (filter-all xs)
 
-pub unanswered-cancels : (m : Outbound) (next : List (List ℕ)) (new q : Entry) (tokens : List (List ℕ)) → unanswered m next (map (λ token. asked_cancel new q token) tokens) ≡ map (λ token. asked_cancel new q token) (unanswered_tokens m next tokens)
+pub unanswered-cancels : (m : Outbound) (next : List (List ℕ)) (new q : Entry) (tokens : List (List ℕ))
+    → unanswered m next (map (λ token. asked_cancel new q token) tokens)
+    ≡ map (λ token. asked_cancel new q token) (unanswered_tokens m next tokens)
 unanswered-cancels m next new q [] = refl
-unanswered-cancels m next new q (token ∷ tokens) = by_test (answers m next (SaysCancel token)) (unanswered-cancels m next new q tokens)
+unanswered-cancels m next new q (token ∷ tokens) =
+    by_test (answers m next (SaysCancel token)) (unanswered-cancels m next new q tokens)
   where
-    by_test : (b : Bool) → unanswered m next (map (λ token. asked_cancel new q token) tokens) ≡ map (λ token. asked_cancel new q token) (unanswered_tokens m next tokens)
-        → (if not b then asked_cancel new q token ∷ unanswered m next (map (λ token. asked_cancel new q token) tokens) else unanswered m next (map (λ token. asked_cancel new q token) tokens)) ≡ map (λ token. asked_cancel new q token) (if not b then token ∷ unanswered_tokens m next tokens else unanswered_tokens m next tokens)
+    by_test : (b : Bool) → unanswered m next (map (λ token. asked_cancel new q token) tokens)
+        ≡ map (λ token. asked_cancel new q token) (unanswered_tokens m next tokens)
+        → (if not b then asked_cancel new q token ∷ unanswered m next
+        (map (λ token. asked_cancel new q token) tokens) else unanswered m next
+        (map (λ token. asked_cancel new q token) tokens))
+        ≡ map (λ token. asked_cancel new q token)
+        (if not b then token ∷ unanswered_tokens m next tokens else unanswered_tokens m next tokens)
     by_test true e = e
     by_test false e = ap (λ xs. asked_cancel new q token ∷ xs) e

@@ -1,5 +1,6 @@
 -- Numbers as texts, and texts that are compared.
-use Rattle.std.proofs.Common.{◌≡◌, ◌≢◌, ℕ, ◌<◌, ◌≤◌, ◌^◌, Bool, true, false, List, refl, sym, ap, ◌∙◌, decimal, bytes_eq}
+use Rattle.std.proofs.Common.{◌≡◌, ◌≢◌, ℕ, ◌<◌, ◌≤◌, ◌^◌, Bool, true, false, List, refl, sym, ap, ◌∙◌, decimal}
+use Rattle.std.proofs.Common.{bytes_eq}
 use Rattle.std.proofs.lemmas.Fmt.{decimal_is_IsNumeral_wide}
 use Rattle.std.proofs.lemmas.Slice.Eq.{bytes_eq-Decides}
 use Rattle.std.specs.Prelude.{◌&&◌, ◌||◌}
@@ -12,7 +13,8 @@ pub number-decimal : (n : ℕ) → n < 10 ^ 64 → digits_value 10 (decimal n) �
 number-decimal n small = (decimal_is_IsNumeral_wide n small).1
 
 pub decimal-same : (m n : ℕ) → m < 10 ^ 64 → n < 10 ^ 64 → decimal m ≡ decimal n → m ≡ n
-decimal-same m n m_small n_small e = sym (number-decimal m m_small) ∙ (ap (digits_value 10) e ∙ number-decimal n n_small)
+decimal-same m n m_small n_small e = sym (number-decimal m m_small)
+    ∙ (ap (digits_value 10) e ∙ number-decimal n n_small)
 
 pub eq-same : (xs : List ℕ) → bytes_eq xs xs ≡ true
 eq-same xs = (bytes_eq-Decides xs xs).1 refl
@@ -31,10 +33,12 @@ eq-other xs ys differ = by_test (bytes_eq xs ys) refl
     by_test false e = e
 
 pub eq-decimal_other : (m n : ℕ) → m ≢ n → m < 10 ^ 64 → n < 10 ^ 64 → bytes_eq (decimal m) (decimal n) ≡ false
-eq-decimal_other m n differ m_small n_small = eq-other (decimal m) (decimal n) (λ e. differ (decimal-same m n m_small n_small e))
+eq-decimal_other m n differ m_small n_small =
+    eq-other (decimal m) (decimal n) (λ e. differ (decimal-same m n m_small n_small e))
 
 pub token-same : (m n : ℕ) → m ≤ 9_999_999_999_999 → n ≤ 9_999_999_999_999 → token_text m ≡ token_text n → m ≡ n
-token-same m n m_short n_short e = token_number (token_text m) m n m_short n_short (digits_behind (token_text m) m refl) e
+token-same m n m_short n_short e = token_number (token_text m) m n m_short n_short
+    (digits_behind (token_text m) m refl) e
 
 -- ---- tests
 

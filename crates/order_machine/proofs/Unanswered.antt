@@ -56,10 +56,12 @@ record IsRecorded (terms : List Terms) (h : OrderHistory) (s : TableState) (port
   at_home : port_of terms order.new ≡ port
   named : order.new.order ≡ a.order
 
-recorded : (terms : List Terms) (h : OrderHistory) (s : TableState) → IsTable terms h s → (port : ℕ) (a : Asked) → IsPlaced terms (accepted terms h) port a → IsRecorded terms h s port a
+recorded : (terms : List Terms) (h : OrderHistory) (s : TableState) → IsTable terms h s → (port : ℕ) (a : Asked)
+    → IsPlaced terms (accepted terms h) port a → IsRecorded terms h s port a
 recorded terms h s t port a k = by_order (by_number s a.order) refl (number-leads terms h s t a.order ∙ k.known)
   where
-    by_order : (x : Option OrderRecord) → by_number s a.order ≡ x → option_map (λ (o : OrderRecord). o.new) x ≡ Some k.new → IsRecorded terms h s port a
+    by_order : (x : Option OrderRecord) → by_number s a.order ≡ x
+        → option_map (λ (o : OrderRecord). o.new) x ≡ Some k.new → IsRecorded terms h s port a
     by_order None e is = absurd (cc)
     by_order (Some o) e is = record {
       order = o;
@@ -70,11 +72,13 @@ recorded terms h s t port a k = by_order (by_number s a.order) refl (number-lead
     }
 
 -- the replaces that are asked for the order of a token are its pending ones
-pub next-pending : (terms : List Terms) (before : OrderHistory) (s : TableState) (t : IsTable terms before s) (port : ℕ) (m : Outbound) (token : List ℕ) (o : OrderRecord) → record_by_token s port token ≡ Some o
+pub next-pending : (terms : List Terms) (before : OrderHistory) (s : TableState) (t : IsTable terms before s) (port : ℕ)
+    (m : Outbound) (token : List ℕ) (o : OrderRecord) → record_by_token s port token ≡ Some o
     → next_tokens o.new.order (outstanding terms port before) ≡ replacements o.replaces
 next-pending terms before s t port m token o on =
     let fits : FitsIn terms before o = token-fits terms before s t port m token o on in
-    ap (λ (p : ℕ). next_tokens o.new.order (outstanding terms p before)) (sym (token-port terms before s t port m token o on))
+    ap (λ (p : ℕ). next_tokens o.new.order (outstanding terms p before))
+    (sym (token-port terms before s t port m token o on))
     ∙ next-own terms o (outstanding terms (port_of terms o.new) before) fits.asked_so
 
 -- a message changes nothing of the new order
@@ -113,7 +117,8 @@ module _ (terms : List Terms) (before : OrderHistory) (s : TableState) (t : IsTa
 
   -- the law's test of what a port was asked
   abbrev still : ℕ → Asked → Bool
-  still p a = not (is_law_answered m (outstanding terms p before) a || is_closed (life_of a.order A (handled p (turn ∷ before))).stage)
+  still p a = not (is_law_answered m (outstanding terms p before) a
+      || is_closed (life_of a.order A (handled p (turn ∷ before))).stage)
 
   -- an order of a port that stays as it is
   abbrev Stays : ℕ → Type 0
@@ -123,14 +128,19 @@ module _ (terms : List Terms) (before : OrderHistory) (s : TableState) (t : IsTa
   IsKept p a = (k : Stays p) → bytes_eq a.order k.0.new.order ≡ true → still p a ≡ true
 
   own-same : (x : OrderRecord) → FitsIn terms before x → FitsIn terms (turn ∷ before) x
-      → own x.new.order (filter (still (port_of terms x.new)) (outstanding terms (port_of terms x.new) before)) ≡ own x.new.order (outstanding terms (port_of terms x.new) before)
-  own-same x f g = ap (own x.new.order) (sym (append-nothing (filter (still (port_of terms x.new)) (outstanding terms (port_of terms x.new) before)))) ∙ g.asked_so ∙ sym f.asked_so
+      → own x.new.order (filter (still (port_of terms x.new)) (outstanding terms (port_of terms x.new) before))
+      ≡ own x.new.order (outstanding terms (port_of terms x.new) before)
+  own-same x f g = ap (own x.new.order) (sym
+      (append-nothing (filter (still (port_of terms x.new)) (outstanding terms (port_of terms x.new) before))))
+      ∙ g.asked_so ∙ sym f.asked_so
 
   -- all that is asked of it stays
   kept : (p : ℕ) → Each (IsKept p) (outstanding terms p before)
-  kept p = each-all (λ (k : Stays p) (a : Asked). bytes_eq a.order k.0.new.order ≡ true → still p a ≡ true) (outstanding terms p before)
+  kept p = each-all (λ (k : Stays p) (a : Asked). bytes_eq a.order k.0.new.order ≡ true → still p a ≡ true)
+      (outstanding terms p before)
       (λ k. kept-members k.0.new.order (still p) (outstanding terms p before)
-      (subst (λ (r : ℕ). own k.0.new.order (filter (still r) (outstanding terms r before)) ≡ own k.0.new.order (outstanding terms r before)) k.3 (own-same k.0 k.1 k.2)))
+      (subst (λ (r : ℕ). own k.0.new.order (filter (still r) (outstanding terms r before))
+      ≡ own k.0.new.order (outstanding terms r before)) k.3 (own-same k.0 k.1 k.2)))
 
   abbrev IsMember : ℕ → Asked → Type 0
   IsMember p a = IsPlaced terms A p a × IsKept p a
@@ -141,10 +151,13 @@ module _ (terms : List Terms) (before : OrderHistory) (s : TableState) (t : IsTa
 
     -- what stays has its order still
     placed-then : ArePlaced terms (turn ∷ before)
-    placed-then p = subst (Each (IsPlaced terms A p)) (sym (append-nothing (filter (still p) (outstanding terms p before)))) (Each-filter (IsPlaced terms A p) (still p) (outstanding terms p before) (placed p))
+    placed-then p = subst (Each (IsPlaced terms A p))
+        (sym (append-nothing (filter (still p) (outstanding terms p before))))
+        (Each-filter (IsPlaced terms A p) (still p) (outstanding terms p before) (placed p))
 
     -- where each order stays as it is
-    pub all-stay : IsTable terms (turn ∷ before) s → (p : ℕ) → outstanding terms p (turn ∷ before) ≡ outstanding terms p before
+    pub all-stay : IsTable terms (turn ∷ before) s → (p : ℕ)
+        → outstanding terms p (turn ∷ before) ≡ outstanding terms p before
     all-stay after p =
         append-nothing (filter (still p) (outstanding terms p before))
         ∙ filter-each (IsMember p) (still p) (λ (a : Asked). true) (outstanding terms p before) stays (members p)
@@ -153,7 +166,14 @@ module _ (terms : List Terms) (before : OrderHistory) (s : TableState) (t : IsTa
         stays : (a : Asked) → IsMember p a → still p a ≡ true
         stays a k =
             let r = recorded terms before s t p a k.0 in
-            k.1 (r.order, r.fits, Each-found (FitsIn terms (turn ∷ before)) (has_number a.order) s.orders r.order after.fit r.found, r.at_home) (eq-true a.order r.order.new.order (sym r.named))
+            k.1 (
+              r.order,
+              r.fits,
+              Each-found (FitsIn terms (turn ∷ before))
+                  (has_number a.order) s.orders r.order after.fit r.found,
+              r.at_home,
+            )
+            (eq-true a.order r.order.new.order (sym r.named))
 
     -- where one order of the port is this one then, with replaces pending before that ask for these tokens
     module _ (q : OrderRecord) (next : List (List ℕ)) (next-so : next_tokens q.new.order (outstanding terms port before) ≡ next) (at_port : port_of terms q.new ≡ port) (fit : Each (FitsIn terms (turn ∷ before)) (put q s.orders)) where
@@ -164,25 +184,38 @@ module _ (terms : List Terms) (before : OrderHistory) (s : TableState) (t : IsTa
       other-stays : (p : ℕ) (a : Asked) → IsMember p a → bytes_eq q.new.order a.order ≡ false → still p a ≡ true
       other-stays p a k apart =
           let r = recorded terms before s t p a k.0 in
-          k.1 (r.order, r.fits, Each-found (FitsIn terms (turn ∷ before)) (has_number a.order) (put q s.orders) r.order fit (number-put_other q a.order apart s.orders ∙ r.found), r.at_home) (eq-true a.order r.order.new.order (sym r.named))
+          k.1 (
+            r.order,
+            r.fits,
+            Each-found (FitsIn terms (turn ∷ before)) (has_number a.order)
+                (put q s.orders) r.order fit (number-put_other q a.order apart s.orders ∙ r.found),
+            r.at_home,
+          )
+          (eq-true a.order r.order.new.order (sym r.named))
 
       own-fits : (p : ℕ) (a : Asked) → IsMember p a → q.new.order ≡ a.order → FitsIn terms (turn ∷ before) q
       own-fits p a k mine =
           let r = recorded terms before s t p a k.0 in
-          Each-found (FitsIn terms (turn ∷ before)) (has_number q.new.order) (put q s.orders) q fit (number-put_own q s.orders r.order (subst (λ (i : List ℕ). find (has_number i) s.orders ≡ Some r.order) (sym mine) r.found))
+          Each-found (FitsIn terms (turn ∷ before)) (has_number q.new.order) (put q s.orders) q fit
+          (number-put_own q s.orders r.order (subst (λ (i : List ℕ). find (has_number i) s.orders ≡ Some r.order)
+          (sym mine) r.found))
 
       own-home : (p : ℕ) (a : Asked) → IsMember p a → q.new.order ≡ a.order → port ≡ p
       own-home p a k mine =
           let f = own-fits p a k mine in
-          sym at_port ∙ ap (port_of terms) (same_some q.new k.0.new (sym f.known ∙ ap (λ (i : List ℕ). new_of i A) mine ∙ k.0.known)) ∙ k.0.at_home
+          sym at_port ∙ ap (port_of terms) (same_some q.new k.0.new
+          (sym f.known ∙ ap (λ (i : List ℕ). new_of i A) mine ∙ k.0.known)) ∙ k.0.at_home
 
-      own-life : (a : Asked) → IsMember port a → q.new.order ≡ a.order → is_closed (life_of a.order A (handled port (turn ∷ before))).stage ≡ is_closed q.stage
+      own-life : (a : Asked) → IsMember port a → q.new.order ≡ a.order
+          → is_closed (life_of a.order A (handled port (turn ∷ before))).stage ≡ is_closed q.stage
       own-life a k mine =
           let f = own-fits port a k mine in
           ap (λ (l : Life). is_closed l.stage)
           (subst (λ (i : List ℕ). life_of i A (handled port (turn ∷ before)) ≡ record_life q) mine
           (subst (λ (r : ℕ). life_of q.new.order A (handled r (turn ∷ before)) ≡ record_life q) at_port
-          (life-of terms A (orders_numbered (turn ∷ before)) (issued q.new.client (turn ∷ before)) (handled (port_of terms q.new) (turn ∷ before)) (outstanding terms (port_of terms q.new) (turn ∷ before)) (reports_in (turn ∷ before)) (1_000_000 * length (turn ∷ before)) q f)))
+          (life-of terms A (orders_numbered (turn ∷ before)) (issued q.new.client (turn ∷ before))
+          (handled (port_of terms q.new) (turn ∷ before)) (outstanding terms (port_of terms q.new) (turn ∷ before))
+          (reports_in (turn ∷ before)) (1_000_000 * length (turn ∷ before)) q f)))
 
       -- on its port both tests are one
       same-here : (a : Asked) → IsMember port a → still port a ≡ keeps a
@@ -192,11 +225,14 @@ module _ (terms : List Terms) (before : OrderHistory) (s : TableState) (t : IsTa
           by_order true mine =
               let same = eq-is q.new.order a.order mine in
               let here : bytes_eq a.order q.new.order ≡ true = eq-true a.order q.new.order (sym same) in
-              ap (λ (ts : List (List ℕ)). not (answers m ts a.said || is_closed (life_of a.order A (handled port (turn ∷ before))).stage)) (ap (λ (i : List ℕ). next_tokens i (outstanding terms port before)) (sym same) ∙ next-so)
+              ap (λ (ts : List (List ℕ)). not (answers m ts a.said
+              || is_closed (life_of a.order A (handled port (turn ∷ before))).stage))
+              (ap (λ (i : List ℕ). next_tokens i (outstanding terms port before)) (sym same) ∙ next-so)
               ∙ ap (λ (c : Bool). not (answers m next a.said || c)) (own-life a k same)
               ∙ sym (ap (λ (b : Bool). not (b && (answers m next a.said || is_closed q.stage))) here)
           by_order false other =
-              other-stays port a k other ∙ sym (ap (λ (b : Bool). not (b && (answers m next a.said || is_closed q.stage))) (eq-turned q.new.order a.order other))
+              other-stays port a k other ∙ sym (ap (λ (b : Bool). not
+              (b && (answers m next a.said || is_closed q.stage))) (eq-turned q.new.order a.order other))
 
       -- and all that another one is asked stays
       same-elsewhere : (p : ℕ) → port ≢ p → (a : Asked) → IsMember p a → still p a ≡ true
@@ -214,14 +250,16 @@ module _ (terms : List Terms) (before : OrderHistory) (s : TableState) (t : IsTa
         rest-here =
             on-filter port (λ (x : OnPort). not (is_answered port m next q x)) keeps (λ x here. rw here refl) asked
             ∙ ap (filter keeps) (same port)
-            ∙ sym (filter-each (IsMember port) (still port) keeps (outstanding terms port before) same-here (members port))
+            ∙ sym (filter-each (IsMember port) (still port) keeps (outstanding terms port before) same-here
+            (members port))
             ∙ sym (append-nothing (filter (still port) (outstanding terms port before)))
 
         rest-elsewhere : (p : ℕ) → port ≢ p → HasRest p
         rest-elsewhere p apart =
             on-filter p (λ (x : OnPort). not (is_answered port m next q x)) (λ (a : Asked). true) passes asked
             ∙ ap (filter (λ (a : Asked). true)) (same p)
-            ∙ sym (filter-each (IsMember p) (still p) (λ (a : Asked). true) (outstanding terms p before) (same-elsewhere p apart) (members p))
+            ∙ sym (filter-each (IsMember p) (still p) (λ (a : Asked). true) (outstanding terms p before)
+            (same-elsewhere p apart) (members p))
             ∙ sym (append-nothing (filter (still p) (outstanding terms p before)))
           where
             passes : (x : OnPort) → is_on p x ≡ true → not (is_answered port m next q x) ≡ true
@@ -232,7 +270,8 @@ module _ (terms : List Terms) (before : OrderHistory) (s : TableState) (t : IsTa
           where
             by_port : (b : Bool) → (port == p) ≡ b → HasRest p
             by_port true here = subst HasRest (eqb-true port p here) rest-here
-            by_port false away = rest-elsewhere p (λ e. (let on : (port == p) ≡ true = eq-eqb port p e in let x : true ≡ false = sym on ∙ away in cc))
+            by_port false away = rest-elsewhere p (λ e.
+                (let on : (port == p) ≡ true = eq-eqb port p e in let x : true ≡ false = sym on ∙ away in cc))
 
 -- ---- a payload
 
@@ -251,37 +290,51 @@ module _ (terms : List Terms) (before : OrderHistory) (s : TableState) (t : IsTa
     same = λ p. was.same p ∙ sym (all-stay terms before s t port m 0 [] sends was.placed after p);
   }
 
-  same-asked : (heard : Result Outbound DecodeRefusal) (n p : ℕ) → outstanding terms p (heard_turn port heard 0 [] sends (Some n) ∷ before) ≡ outstanding terms p before
+  same-asked : (heard : Result Outbound DecodeRefusal) (n p : ℕ)
+      → outstanding terms p (heard_turn port heard 0 [] sends (Some n) ∷ before) ≡ outstanding terms p before
   same-asked (Ok m) n p = append-nothing (outstanding terms p before)
   same-asked (Err refusal) n p = append-nothing (outstanding terms p before)
 
-  faulty-rest : (heard : Result Outbound DecodeRefusal) (n : ℕ) → LeavesRest terms before s port heard sends (faulty s n) asked
+  faulty-rest : (heard : Result Outbound DecodeRefusal) (n : ℕ)
+      → LeavesRest terms before s port heard sends (faulty s n) asked
   faulty-rest heard n after = record {
     placed = λ p. subst (Each (IsPlaced terms (accepted terms before) p)) (sym (same-asked heard n p)) (was.placed p);
     same = λ p. was.same p ∙ sym (same-asked heard n p);
   }
 
-  next-then : (m : Outbound) (token : List ℕ) (o : OrderRecord) → record_by_token s port token ≡ Some o → next_tokens (after_message s.exec_ids m o).new.order (outstanding terms port before) ≡ replacements o.replaces
+  next-then : (m : Outbound) (token : List ℕ) (o : OrderRecord) → record_by_token s port token ≡ Some o
+      → next_tokens (after_message s.exec_ids m o).new.order (outstanding terms port before) ≡ replacements o.replaces
   next-then m token o on =
-      ap (λ (e : Entry). next_tokens e.order (outstanding terms port before)) (after_message-new s.exec_ids m o) ∙ next-pending terms before s t port m token o on
+      ap (λ (e : Entry). next_tokens e.order (outstanding terms port before)) (after_message-new s.exec_ids m o)
+      ∙ next-pending terms before s t port m token o on
 
-  heard-rest : (m : Outbound) (token : List ℕ) (x : Option OrderRecord) → record_by_token s port token ≡ x → LeavesRest terms before s port (Ok m) sends (heard_on s m x) (still_asked_on s port m x asked)
+  heard-rest : (m : Outbound) (token : List ℕ) (x : Option OrderRecord) → record_by_token s port token ≡ x
+      → LeavesRest terms before s port (Ok m) sends (heard_on s m x) (still_asked_on s port m x asked)
   heard-rest m token None on = silent-rest m
   heard-rest m token (Some o) on = λ after. record {
-    placed = placed-then terms before s t port m (heard_on s m (Some o)).client (heard_on s m (Some o)).bodies sends was.placed;
-    same = rest terms before s t port m (heard_on s m (Some o)).client (heard_on s m (Some o)).bodies sends was.placed (after_message s.exec_ids m o) (replacements o.replaces) (next-then m token o on)
-        (ap (port_of terms) (after_message-new s.exec_ids m o) ∙ token-port terms before s t port m token o on) after.fit asked was.same;
+    placed = placed-then terms before s t port m (heard_on s m (Some o)).client
+        (heard_on s m (Some o)).bodies sends was.placed;
+    same = rest terms before s t port m (heard_on s m (Some o)).client (heard_on s m (Some o)).bodies sends was.placed
+        (after_message s.exec_ids m o) (replacements o.replaces) (next-then m token o on)
+        (ap (port_of terms) (after_message-new s.exec_ids m o) ∙ token-port terms before s t port m token o on)
+        after.fit asked was.same;
   }
 
-  handled-rest : (m : Outbound) (x : Option (List ℕ)) → LeavesRest terms before s port (Ok m) sends (heard_on s m (option_and_then (record_by_token s port) x)) (still_asked_on s port m (option_and_then (record_by_token s port) x) asked)
+  handled-rest : (m : Outbound) (x : Option (List ℕ))
+      → LeavesRest terms before s port (Ok m) sends (heard_on s m (option_and_then (record_by_token s port) x))
+      (still_asked_on s port m (option_and_then (record_by_token s port) x) asked)
   handled-rest m None = silent-rest m
   handled-rest m (Some token) = heard-rest m token (record_by_token s port token) refl
 
-  by_fault-rest : (heard : Result Outbound DecodeRefusal) (x : Option ℕ) → payload_fault s port heard ≡ x → LeavesRest terms before s port heard sends (Rattle.order_machine.specs.Machine.given_by_fault s port heard x) (still_asked s port heard x asked)
+  by_fault-rest : (heard : Result Outbound DecodeRefusal) (x : Option ℕ) → payload_fault s port heard ≡ x
+      → LeavesRest terms before s port heard sends (Rattle.order_machine.specs.Machine.given_by_fault s port heard x)
+      (still_asked s port heard x asked)
   by_fault-rest (Ok m) None e = handled-rest m (order_token m)
   by_fault-rest (Ok m) (Some n) e = faulty-rest (Ok m) n
   by_fault-rest (Err refusal) None e = absurd (cc)
   by_fault-rest (Err refusal) (Some n) e = faulty-rest (Err refusal) n
 
-  pub market-rest : (heard : Result Outbound DecodeRefusal) → LeavesRest terms before s port heard sends (market_step s port heard) (still_asked s port heard (payload_fault s port heard) asked)
+  pub market-rest : (heard : Result Outbound DecodeRefusal)
+      → LeavesRest terms before s port heard sends (market_step s port heard)
+      (still_asked s port heard (payload_fault s port heard) asked)
   market-rest heard = by_fault-rest heard (payload_fault s port heard) refl

@@ -1,5 +1,6 @@
 -- What follows from the verdict of a client's message.
-use Rattle.std.proofs.Common.{◌≡◌, ℕ, zero, suc, ◌<◌, ◌≤◌, ◌^◌, Bool, true, false, List, [], ◌∷◌, refl, sym, ap, ◌∙◌, arith, decimal, codes, bytes_eq, Option, Some, None, Result, Ok, Err, slice_get}
+use Rattle.std.proofs.Common.{◌≡◌, ℕ, zero, suc, ◌<◌, ◌≤◌, ◌^◌, Bool, true, false, List, [], ◌∷◌, refl, sym, ap, ◌∙◌}
+use Rattle.std.proofs.Common.{arith, decimal, codes, bytes_eq, Option, Some, None, Result, Ok, Err, slice_get}
 use Rattle.std.specs.Prelude.{◌&&◌, not, if◌then◌else◌, is_ok, nat_le, option_and_then}
 use Rattle.std.specs.List.{find}
 use Rattle.std.specs.Fmt.{digits}
@@ -12,31 +13,37 @@ use Rattle.fix_fields.specs.Field.{Message, text}
 use Rattle.order_law.specs.Asks.{total_of}
 use Rattle.order_law.specs.Reading.{reading}
 use Rattle.order_law.specs.Chain.{chain, is_used, named}
-use Rattle.order_law.specs.Verdicts.{Accepted, Named, Port, Refused, Row, first_row, has_to_wait, is_replace, last_token, new_order_rows, request_rows, verdict_of_new, verdict_of_request}
+use Rattle.order_law.specs.Verdicts.{Accepted, Named, Port, Refused, Row, first_row, has_to_wait, is_replace}
+use Rattle.order_law.specs.Verdicts.{last_token, new_order_rows, request_rows, verdict_of_new, verdict_of_request}
 use Rattle.order_law.specs.History.{Entry, Terms, new_of, standing_of}
 use Rattle.order_machine.proofs.Leads.{same_some}
 
 -- where a table accepts, no row holds
-pub row-fails : (rows : List Row) (i : ℕ) (r : Row) → first_row rows ≡ Accepted → slice_get rows i ≡ Some r → r.holds ≡ false
+pub row-fails : (rows : List Row) (i : ℕ) (r : Row) → first_row rows ≡ Accepted → slice_get rows i ≡ Some r
+    → r.holds ≡ false
 row-fails [] i r e at = absurd (cc)
 row-fails (q ∷ rows) zero r e at = by_test q.holds refl e
   where
     same : q ≡ r
     same = cc
 
-    by_test : (b : Bool) → q.holds ≡ b → (if b then Refused q.code q.why else first_row rows) ≡ Accepted → r.holds ≡ false
+    by_test : (b : Bool) → q.holds ≡ b → (if b then Refused q.code q.why else first_row rows) ≡ Accepted
+        → r.holds ≡ false
     by_test true h e = absurd (cc)
     by_test false h e = ap (λ (x : Row). x.holds) (sym same) ∙ h
 row-fails (q ∷ rows) (suc i) r e at = by_test q.holds e (λ rest. row-fails rows i r rest at)
   where
-    by_test : (b : Bool) → (if b then Refused q.code q.why else first_row rows) ≡ Accepted → (first_row rows ≡ Accepted → r.holds ≡ false) → r.holds ≡ false
+    by_test : (b : Bool) → (if b then Refused q.code q.why else first_row rows) ≡ Accepted
+        → (first_row rows ≡ Accepted → r.holds ≡ false) → r.holds ≡ false
     by_test true e later = absurd (cc)
     by_test false e later = later e
 
 fits-below : (n : ℕ) → nat_le last_token n ≡ false → n < 9_999_999_999_999
 fits-below n e = grind (arith, nat_tests)
 
-shares-of : (said : Result ℕ DecimalRefusal) → not (is_ok said) ≡ false → ((n : ℕ) → said ≡ Ok n → (1 ≤ n) × (n ≤ 999_999)) → (1 ≤ result_unwrap_or said 0) × (result_unwrap_or said 0 ≤ 999_999)
+shares-of : (said : Result ℕ DecimalRefusal) → not (is_ok said) ≡ false
+    → ((n : ℕ) → said ≡ Ok n → (1 ≤ n) × (n ≤ 999_999))
+    → (1 ≤ result_unwrap_or said 0) × (result_unwrap_or said 0 ≤ 999_999)
 shares-of (Ok n) e range = range n refl
 shares-of (Err r) e range = absurd (cc)
 
@@ -46,7 +53,8 @@ pub record NewSays (sent : List Message) (given : ℕ) (m : Message) : Type 0 wh
   pub most : total_of m ≤ 999_999
   pub token : given < 9_999_999_999_999
 
-pub new-says : (sent : List Message) (port : Port) (given : ℕ) (m : Message) → verdict_of_new sent port given m ≡ Accepted → NewSays sent given m
+pub new-says : (sent : List Message) (port : Port) (given : ℕ) (m : Message)
+    → verdict_of_new sent port given m ≡ Accepted → NewSays sent given m
 new-says sent port given m e =
     let rows = new_order_rows sent port given m in
     let used = row-fails rows 0 (record { holds = is_used (text 11 m) sent; code = 6; why = codes "duplicate ClOrdID" }) e refl in
@@ -64,7 +72,8 @@ pub record RequestSays (sent : List Message) (named : Option Named) (given : ℕ
   pub may : has_to_wait (is_replace m) n.chain ≡ false
   pub token : is_replace m ≡ true → given < 9_999_999_999_999
 
-pub request-says : (sent : List Message) (named : Option Named) (port : Port) (given : ℕ) (m : Message) → verdict_of_request sent named port given m ≡ Accepted → RequestSays sent named given m
+pub request-says : (sent : List Message) (named : Option Named) (port : Port) (given : ℕ) (m : Message)
+    → verdict_of_request sent named port given m ≡ Accepted → RequestSays sent named given m
 request-says sent None port given m e = absurd (by_used (is_used (text 11 m) sent) e)
   where
     by_used : (b : Bool) → (if b then Refused 6 (codes "duplicate ClOrdID") else Refused 1 (codes "unknown order")) ≡ Accepted → ⊥
@@ -82,17 +91,32 @@ request-says sent (Some n) port given m e =
     }
 
 -- what a request names
-pub named-is : (terms : List Terms) (sent : List Message) (entries : List Entry) (id : List ℕ) (n : Named) → option_and_then (standing_of terms sent entries) (named id sent) ≡ Some n
+pub named-is : (terms : List Terms) (sent : List Message) (entries : List Entry) (id : List ℕ) (n : Named)
+    → option_and_then (standing_of terms sent entries) (named id sent) ≡ Some n
     → (k : List ℕ) × (named id sent ≡ Some k) × (n.reading ≡ reading k sent) × (n.chain ≡ chain k sent)
 named-is terms sent entries id n e = by_named (named id sent) refl e
   where
-    by_new : (k : List ℕ) → named id sent ≡ Some k → (x : Option Entry) → new_of k entries ≡ x → standing_of terms sent entries k ≡ Some n → (k : List ℕ) × (named id sent ≡ Some k) × (n.reading ≡ reading k sent) × (n.chain ≡ chain k sent)
+    by_new : (k : List ℕ) → named id sent ≡ Some k → (x : Option Entry) → new_of k entries ≡ x
+        → standing_of terms sent entries k ≡ Some n
+        → (k : List ℕ) × (named id sent ≡ Some k) × (n.reading ≡ reading k sent) × (n.chain ≡ chain k sent)
     by_new k is_k None is_x e = absurd (let y : ◌≡◌ {A = Option Named} None (Some n) = rw is_x at e in cc)
     by_new k is_k (Some x) is_x e =
-        let y = same_some (record { side = text 54 x.message; symbol = text 55 x.message; capacity = Rattle.order_law.specs.Asks.capacity_of (Rattle.order_law.specs.History.terms_of terms x.client).capacity x.message; reading = reading k sent; chain = chain k sent; replaces = Rattle.std.specs.List.count_by (λ (q : Entry). bytes_eq q.order k && is_replace q.message) entries }) n (rw is_x at e) in
+        let y = same_some (record {
+          side = text 54 x.message;
+          symbol = text 55 x.message;
+          capacity =
+              Rattle.order_law.specs.Asks.capacity_of (Rattle.order_law.specs.History.terms_of terms x.client).capacity
+              x.message;
+          reading = reading k sent;
+          chain = chain k sent;
+          replaces =
+              Rattle.std.specs.List.count_by (λ (q : Entry). bytes_eq q.order k && is_replace q.message) entries;
+        }) n
+        (rw is_x at e) in
         (k, is_k, ap (λ (s : Named). s.reading) (sym y), ap (λ (s : Named). s.chain) (sym y))
 
-    by_named : (x : Option (List ℕ)) → named id sent ≡ x → option_and_then (standing_of terms sent entries) x ≡ Some n → (k : List ℕ) × (named id sent ≡ Some k) × (n.reading ≡ reading k sent) × (n.chain ≡ chain k sent)
+    by_named : (x : Option (List ℕ)) → named id sent ≡ x → option_and_then (standing_of terms sent entries) x ≡ Some n
+        → (k : List ℕ) × (named id sent ≡ Some k) × (n.reading ≡ reading k sent) × (n.chain ≡ chain k sent)
     by_named None is_x e = absurd (cc)
     by_named (Some k) is_x e = by_new k is_x (new_of k entries) refl e
 
@@ -121,5 +145,6 @@ not-text e = cc
 -- `NONE` is no number
 pub none-apart : (n : ℕ) → n < 10 ^ 64 → bytes_eq (codes "NONE") (decimal n) ≡ false
 none-apart n small = Rattle.order_machine.proofs.Texts.eq-other (codes "NONE") (decimal n) (λ same.
-    let value : n ≡ 25644 = sym (Rattle.order_machine.proofs.Texts.number-decimal n small) ∙ ap (Rattle.std.specs.Str.Parse.digits_value 10) (sym same) in
+    let value : n ≡ 25644 = sym (Rattle.order_machine.proofs.Texts.number-decimal n small)
+    ∙ ap (Rattle.std.specs.Str.Parse.digits_value 10) (sym same) in
     not-text (same ∙ ap decimal value))

@@ -21,7 +21,8 @@ use Rattle.order_shelves.proofs.Shelving.{filter-reverse}
 -- ---- the tokens that a message leaves
 
 -- whichever comes of a test has these tokens
-either : (tokens : List (List ℕ)) (b : Bool) (x y : Life) → x.tokens ≡ tokens → y.tokens ≡ tokens → (if b then x else y).tokens ≡ tokens
+either : (tokens : List (List ℕ)) (b : Bool) (x y : Life) → x.tokens ≡ tokens → y.tokens ≡ tokens
+    → (if b then x else y).tokens ≡ tokens
 either tokens true x y first second = first
 either tokens false x y first second = second
 
@@ -55,11 +56,13 @@ given l market.Skipped = l.tokens
 tokens-given : (l : Life) (m : Outbound) → (after l m).tokens ≡ given l m
 tokens-given l (market.Replaced m) = by_test (is_live l m.previous_token)
   where
-    by_test : (b : Bool) → (if b then opened m.shares (is_dead m.order_state) (record l { tokens = m.token ∷ l.tokens }) else l).tokens ≡ (if b then m.token ∷ l.tokens else l.tokens)
+    by_test : (b : Bool) → (if b then opened m.shares (is_dead m.order_state)
+        (record l { tokens = m.token ∷ l.tokens }) else l).tokens ≡ (if b then m.token ∷ l.tokens else l.tokens)
     by_test true = opened-tokens m.shares (is_dead m.order_state) (record l { tokens = m.token ∷ l.tokens })
     by_test false = refl
 tokens-given l (market.SystemEvent m) = refl
-tokens-given l (market.Accepted m) = either l.tokens (is_live l m.token && is_waiting l.stage) (opened m.shares (is_dead m.order_state) l) l (opened-tokens m.shares (is_dead m.order_state) l) refl
+tokens-given l (market.Accepted m) = either l.tokens (is_live l m.token && is_waiting l.stage)
+    (opened m.shares (is_dead m.order_state) l) l (opened-tokens m.shares (is_dead m.order_state) l) refl
 tokens-given l (market.Canceled m) = either l.tokens (is_live l m.token) (decreased m.decrement l) l
     (settled-tokens (record l { unfilled = l.unfilled - m.decrement; cancelled = l.cancelled + m.decrement })) refl
 tokens-given l (market.Executed m) = either l.tokens (is_live l m.token) (traded m.match_number m.shares m.price l) l
@@ -67,10 +70,13 @@ tokens-given l (market.Executed m) = either l.tokens (is_live l m.token) (traded
       unfilled = l.unfilled - m.shares;
       executed = l.executed + m.shares;
       value = l.value + m.shares * m.price;
-      trades = record { match_number = m.match_number; shares = m.shares; price = m.price; is_broken = false } ∷ l.trades;
+      trades = record { match_number = m.match_number; shares = m.shares; price = m.price; is_broken = false } ∷
+          l.trades;
     })) refl
-tokens-given l (market.Broken m) = either l.tokens (is_of l m.token) (broken m.match_number l) l (broken-tokens m.match_number l) refl
-tokens-given l (market.Rejected m) = either l.tokens (is_live l m.token && is_waiting l.stage) (record l { stage = Closed }) l refl refl
+tokens-given l (market.Broken m) = either l.tokens (is_of l m.token) (broken m.match_number l) l
+    (broken-tokens m.match_number l) refl
+tokens-given l (market.Rejected m) = either l.tokens (is_live l m.token && is_waiting l.stage)
+    (record l { stage = Closed }) l refl refl
 tokens-given l (market.CancelPending m) = refl
 tokens-given l (market.CancelReject m) = refl
 tokens-given l market.Skipped = refl
@@ -97,20 +103,23 @@ module _ (leads : List ℕ) (root : List ℕ) (side : ℕ) where
       by_token t (inl same) = ap (lead leads) ((bytes_decides t root).0 same)
       by_token t (inr never) = absurd (let bad : false ≡ true = never in cc)
 
-  led-more : (token : List ℕ) (tokens : List (List ℕ)) → lead leads token ≡ lead leads root → Led tokens → Led (token ∷ tokens)
+  led-more : (token : List ℕ) (tokens : List (List ℕ)) → lead leads token ≡ lead leads root → Led tokens
+      → Led (token ∷ tokens)
   led-more token tokens leads_there led = record {
     first = leads_there;
     all = λ t known. by_token t (or_cases (bytes_eq t token) (list_any (bytes_eq t) tokens) known);
   }
     where
-      by_token : (t : List ℕ) → (bytes_eq t token ≡ true) ⊎ (list_any (bytes_eq t) tokens ≡ true) → lead leads t ≡ lead leads root
+      by_token : (t : List ℕ) → (bytes_eq t token ≡ true) ⊎ (list_any (bytes_eq t) tokens ≡ true)
+          → lead leads t ≡ lead leads root
       by_token t (inl same) = ap (lead leads) ((bytes_decides t token).0 same) ∙ leads_there
       by_token t (inr earlier) = led.all t earlier
 
   -- a token that leads elsewhere is not the live one, and never was
   not-live : (l : Life) (t : List ℕ) → Led l.tokens → (lead leads t == lead leads root) ≡ false → is_live l t ≡ false
   not-live l t led away = false_from_ne_true (is_live l t)
-      (λ is. let same : lead leads t ≡ lead leads root = ap (lead leads) ((bytes_decides t (first_token l.tokens)).0 is) ∙ led.first in
+      (λ is. let same : lead leads t ≡ lead leads root = ap (lead leads) ((bytes_decides t (first_token l.tokens)).0 is)
+      ∙ led.first in
       let there : (lead leads t == lead leads root) ≡ true = eq-eqb (lead leads t) (lead leads root) same in cc)
 
   not-of : (l : Life) (t : List ℕ) → Led l.tokens → (lead leads t == lead leads root) ≡ false → is_of l t ≡ false
@@ -136,7 +145,8 @@ module _ (leads : List ℕ) (root : List ℕ) (side : ℕ) where
   led-given l (market.Replaced m) led there stay = by_test (is_live l m.previous_token)
     where
       token_there : lead leads m.token ≡ lead leads root
-      token_there = eqb-true (lead leads m.token) (lead leads m.previous_token) stay ∙ eqb-true (lead leads m.previous_token) (lead leads root) there
+      token_there = eqb-true (lead leads m.token) (lead leads m.previous_token) stay
+          ∙ eqb-true (lead leads m.previous_token) (lead leads root) there
 
       by_test : (b : Bool) → Led (if b then m.token ∷ l.tokens else l.tokens)
       by_test true = led-more m.token l.tokens token_there led
@@ -170,10 +180,12 @@ module _ (leads : List ℕ) (root : List ℕ) (side : ℕ) where
       by_place : (there : Bool) → near m ≡ there → stays leads m ≡ true → Alike earlier → Alike (m ∷ earlier)
       by_place true at stay was = record {
         same = ap (life root side) (kept at) ∙ ap (λ (l : Life). after l m) was.same;
-        led = subst Led (sym (tokens-given (life root side earlier) m)) (led-given (life root side earlier) m was.led at stay);
+        led = subst Led (sym (tokens-given (life root side earlier) m))
+            (led-given (life root side earlier) m was.led at stay);
       }
       by_place false at stay was =
-          let none : after (life root side earlier) m ≡ life root side earlier = untouched (life root side earlier) m was.led at in
+          let none : after (life root side earlier) m ≡ life root side earlier =
+          untouched (life root side earlier) m was.led at in
           record {
             same = ap (life root side) (dropped at) ∙ (was.same ∙ sym none);
             led = subst (λ (l : Life). Led l.tokens) (sym none) was.led;
@@ -183,12 +195,16 @@ all-reversed : {X : Type 0} (p : X → Bool) (xs : List X) → list_all p xs ≡
 all-reversed p [] all = refl
 all-reversed p (x ∷ xs) all =
     let parts = and_parts (p x) (list_all p xs) all in
-    ap (list_all p) (reverse-append (x ∷ []) xs) ∙ (list_all-append p (reverse xs) (x ∷ []) ∙ rw (all-reversed p xs parts.1, parts.0) refl)
+    ap (list_all p) (reverse-append (x ∷ []) xs)
+    ∙ (list_all-append p (reverse xs) (x ∷ []) ∙ rw (all-reversed p xs parts.1, parts.0) refl)
 
-pub on-shelf : (leads : List ℕ) (heard : List Outbound) (shelves : List (List Outbound)) (root : List ℕ) (side : ℕ) → lead leads root < length leads → HasMessages leads heard shelves
+pub on-shelf : (leads : List ℕ) (heard : List Outbound) (shelves : List (List Outbound)) (root : List ℕ) (side : ℕ)
+    → lead leads root < length leads → HasMessages leads heard shelves
     → life root side (reverse (get_or shelves (lead leads root) [])) ≡ life root side (reverse heard)
 on-shelf leads heard shelves root side inside has =
     let within : lead leads root < length shelves = subst (λ (n : ℕ). lead leads root < n) (sym has.same) inside in
-    let is : reverse (get_or shelves (lead leads root) []) ≡ filter (message_at leads (lead leads root)) (reverse heard) =
-    ap reverse (has.shelved (lead leads root) within) ∙ sym (filter-reverse (message_at leads (lead leads root)) heard) in
+    let is : reverse (get_or shelves (lead leads root) [])
+    ≡ filter (message_at leads (lead leads root)) (reverse heard) =
+    ap reverse (has.shelved (lead leads root) within) ∙ sym (filter-reverse (message_at leads (lead leads root)) heard)
+    in
     ap (life root side) is ∙ (alike leads root side (reverse heard) (all-reversed (stays leads) heard has.stay)).same

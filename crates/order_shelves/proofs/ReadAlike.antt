@@ -47,8 +47,10 @@ module _ (order : List ℕ) (count : ℕ) where
   reads [] = refl
   reads (r ∷ earlier) = by_report (is_report_on order r) (near r) refl refl (reads earlier)
     where
-      by_report : (on there : Bool) → is_report_on order r ≡ on → near r ≡ there → reading order (filter near earlier) ≡ reading order earlier
-          → reading order (if there then r ∷ filter near earlier else filter near earlier) ≡ (if on then with_report (reading order earlier) r else reading order earlier)
+      by_report : (on there : Bool) → is_report_on order r ≡ on → near r ≡ there
+          → reading order (filter near earlier) ≡ reading order earlier
+          → reading order (if there then r ∷ filter near earlier else filter near earlier)
+          ≡ (if on then with_report (reading order earlier) r else reading order earlier)
       by_report true true is at was = rw is (ap (λ (x : Reading). with_report x r) was)
       by_report true false is at was = absurd (let there : near r ≡ true = own r is in cc)
       by_report false true is at was = rw is was
@@ -58,28 +60,35 @@ module _ (order : List ℕ) (count : ℕ) where
   held [] all = tt
   held (r ∷ earlier) all = by_place (near r) refl (held earlier) all
     where
-      by_place : (there : Bool) → near r ≡ there → (StaysHeld order (filter near earlier) → StaysHeld order earlier) → StaysHeld order (if there then r ∷ filter near earlier else filter near earlier) → StaysHeld order (r ∷ earlier)
+      by_place : (there : Bool) → near r ≡ there → (StaysHeld order (filter near earlier) → StaysHeld order earlier)
+          → StaysHeld order (if there then r ∷ filter near earlier else filter near earlier)
+          → StaysHeld order (r ∷ earlier)
       by_place true at earlier_held all =
-          let same : reading order (r ∷ filter near earlier) ≡ reading order (r ∷ earlier) = sym (ap (reading order) (kept r earlier at)) ∙ reads (r ∷ earlier) in
+          let same : reading order (r ∷ filter near earlier) ≡ reading order (r ∷ earlier) =
+          sym (ap (reading order) (kept r earlier at)) ∙ reads (r ∷ earlier) in
           (subst IsHeld same all.0, earlier_held all.1)
       by_place false at earlier_held all =
-          let same : reading order (filter near earlier) ≡ reading order (r ∷ earlier) = sym (ap (reading order) (dropped r earlier at)) ∙ reads (r ∷ earlier) in
+          let same : reading order (filter near earlier) ≡ reading order (r ∷ earlier) =
+          sym (ap (reading order) (dropped r earlier at)) ∙ reads (r ∷ earlier) in
           (subst IsHeld same (held-now (filter near earlier) all), earlier_held all)
 
   back : (sent : List Message) → StaysHeld order sent → StaysHeld order (filter near sent)
   back [] all = tt
   back (r ∷ earlier) all = by_place (near r) refl (back earlier all.1)
     where
-      by_place : (there : Bool) → near r ≡ there → StaysHeld order (filter near earlier) → StaysHeld order (if there then r ∷ filter near earlier else filter near earlier)
+      by_place : (there : Bool) → near r ≡ there → StaysHeld order (filter near earlier)
+          → StaysHeld order (if there then r ∷ filter near earlier else filter near earlier)
       by_place true at earlier_held =
-          let same : reading order (r ∷ earlier) ≡ reading order (r ∷ filter near earlier) = sym (reads (r ∷ earlier)) ∙ ap (reading order) (kept r earlier at) in
+          let same : reading order (r ∷ earlier) ≡ reading order (r ∷ filter near earlier) = sym (reads (r ∷ earlier))
+          ∙ ap (reading order) (kept r earlier at) in
           (subst IsHeld same all.0, earlier_held)
       by_place false at earlier_held = earlier_held
 
   pub alike : (sent : List Message) → IsReadAlike order (filter near sent) sent
   alike sent = record { reading = reads sent; held = held sent; back = back sent }
 
-pub on-shelf : (order : List ℕ) (shelves : List (List Message)) (sent : List Message) → place (length shelves) order < length shelves → HasReports sent shelves
+pub on-shelf : (order : List ℕ) (shelves : List (List Message)) (sent : List Message)
+    → place (length shelves) order < length shelves → HasReports sent shelves
     → IsReadAlike order (reverse (get_or shelves (place (length shelves) order) [])) (reverse sent)
 on-shelf order shelves sent inside has =
     let n = length shelves in

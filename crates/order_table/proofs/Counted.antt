@@ -36,16 +36,21 @@ counted-few ts o h = leb-true (had o) (1 + count_of ts o) h
 both : (a b : Bool) → a ≡ true → b ≡ true → (a && b) ≡ true
 both a b x y = rw (x, y) refl
 
-pub all-at : {A : Type 0} (test : A → Bool) (xs : List A) (i : ℕ) (x : A) → list_all test xs ≡ true → slice_get xs i ≡ Some x → test x ≡ true
+pub all-at : {A : Type 0} (test : A → Bool) (xs : List A) (i : ℕ) (x : A) → list_all test xs ≡ true
+    → slice_get xs i ≡ Some x → test x ≡ true
 all-at test [] i x all at_i = absurd (cc)
-all-at test (y ∷ ys) zero x all at_i = let same : y ≡ x = cc in ap test (sym same) ∙ (and_parts (test y) (list_all test ys) all).0
+all-at test (y ∷ ys) zero x all at_i = let same : y ≡ x = cc in ap test (sym same)
+    ∙ (and_parts (test y) (list_all test ys) all).0
 all-at test (y ∷ ys) (suc i) x all at_i = all-at test ys i x (and_parts (test y) (list_all test ys) all).1 at_i
 
-all-set : {A : Type 0} (test : A → Bool) (xs : List A) (i : ℕ) (x : A) → list_all test xs ≡ true → test x ≡ true → list_all test (slice_set xs i x) ≡ true
+all-set : {A : Type 0} (test : A → Bool) (xs : List A) (i : ℕ) (x : A) → list_all test xs ≡ true → test x ≡ true
+    → list_all test (slice_set xs i x) ≡ true
 all-set test [] i x all passes = refl
-all-set test (y ∷ ys) zero x all passes = both (test x) (list_all test ys) passes (and_parts (test y) (list_all test ys) all).1
+all-set test (y ∷ ys) zero x all passes =
+    both (test x) (list_all test ys) passes (and_parts (test y) (list_all test ys) all).1
 all-set test (y ∷ ys) (suc i) x all passes =
-    both (test y) (list_all test (slice_set ys i x)) (and_parts (test y) (list_all test ys) all).0 (all-set test ys i x (and_parts (test y) (list_all test ys) all).1 passes)
+    both (test y) (list_all test (slice_set ys i x)) (and_parts (test y) (list_all test ys) all).0
+    (all-set test ys i x (and_parts (test y) (list_all test ys) all).1 passes)
 
 length-push : {A : Type 0} (xs : List A) (x : A) → length (xs ++ x ∷ []) ≡ length xs + 1
 length-push [] x = refl
@@ -62,28 +67,36 @@ more_or_same true n = omega arith
 more_or_same false n = omega arith
 
 more-tokens : (ts : List GivenToken) (t : GivenToken) (o : OrderRecord) → count_of ts o ≤ count_of (ts ++ t ∷ []) o
-more-tokens ts t o = let pushed = count-push (is_replacement_of o.new.order) ts t in let more = more_or_same (is_replacement_of o.new.order t) (count_of ts o) in omega (arith, pushed, more)
+more-tokens ts t o = let pushed = count-push (is_replacement_of o.new.order) ts t in let more =
+    more_or_same (is_replacement_of o.new.order t) (count_of ts o) in omega (arith, pushed, more)
 
-still-counted : (ts : List GivenToken) (t : GivenToken) (o : OrderRecord) → is_counted ts o ≡ true → is_counted (ts ++ t ∷ []) o ≡ true
-still-counted ts t o h = let few = counted-few ts o h in let more = more-tokens ts t o in within (had o) (1 + count_of (ts ++ t ∷ []) o) (omega (arith, few, more))
+still-counted : (ts : List GivenToken) (t : GivenToken) (o : OrderRecord) → is_counted ts o ≡ true
+    → is_counted (ts ++ t ∷ []) o ≡ true
+still-counted ts t o h = let few = counted-few ts o h in let more = more-tokens ts t o in
+    within (had o) (1 + count_of (ts ++ t ∷ []) o) (omega (arith, few, more))
 
-all-more : (ts : List GivenToken) (t : GivenToken) (os : List OrderRecord) → list_all (is_counted ts) os ≡ true → list_all (is_counted (ts ++ t ∷ [])) os ≡ true
+all-more : (ts : List GivenToken) (t : GivenToken) (os : List OrderRecord) → list_all (is_counted ts) os ≡ true
+    → list_all (is_counted (ts ++ t ∷ [])) os ≡ true
 all-more ts t [] all = refl
 all-more ts t (o ∷ os) all =
-    both (is_counted (ts ++ t ∷ []) o) (list_all (is_counted (ts ++ t ∷ [])) os) (still-counted ts t o (and_parts (is_counted ts o) (list_all (is_counted ts) os) all).0)
+    both (is_counted (ts ++ t ∷ []) o) (list_all (is_counted (ts ++ t ∷ [])) os)
+    (still-counted ts t o (and_parts (is_counted ts o) (list_all (is_counted ts) os) all).0)
     (all-more ts t os (and_parts (is_counted ts o) (list_all (is_counted ts) os) all).1)
 
 -- ---- what the table's calls leave
 
 -- one order more, and its token
-pub added : (ts : List GivenToken) (t : GivenToken) (os : List OrderRecord) (o : OrderRecord) → list_all (is_counted ts) os ≡ true → had o ≤ 1 → list_all (is_counted (ts ++ t ∷ [])) (os ++ o ∷ []) ≡ true
+pub added : (ts : List GivenToken) (t : GivenToken) (os : List OrderRecord) (o : OrderRecord)
+    → list_all (is_counted ts) os ≡ true → had o ≤ 1 → list_all (is_counted (ts ++ t ∷ [])) (os ++ o ∷ []) ≡ true
 added ts t os o all few =
     list_all-append (is_counted (ts ++ t ∷ [])) os (o ∷ [])
-    ∙ both (list_all (is_counted (ts ++ t ∷ [])) os) (list_all (is_counted (ts ++ t ∷ [])) (o ∷ [])) (all-more ts t os all)
+    ∙ both (list_all (is_counted (ts ++ t ∷ [])) os) (list_all (is_counted (ts ++ t ∷ [])) (o ∷ []))
+    (all-more ts t os all)
     (both (is_counted (ts ++ t ∷ []) o) true (within (had o) (1 + count_of (ts ++ t ∷ []) o) (omega (arith, few))) refl)
 
 -- an order that has had no more tokens than the one in whose place it stands
-pub kept : (ts : List GivenToken) (os : List OrderRecord) (i : ℕ) (o p : OrderRecord) → list_all (is_counted ts) os ≡ true → slice_get os i ≡ Some o → p.new ≡ o.new → had p ≤ had o
+pub kept : (ts : List GivenToken) (os : List OrderRecord) (i : ℕ) (o p : OrderRecord)
+    → list_all (is_counted ts) os ≡ true → slice_get os i ≡ Some o → p.new ≡ o.new → had p ≤ had o
     → list_all (is_counted ts) (slice_set os i p) ≡ true
 kept ts os i o p all at_i same few =
     let was = counted-few ts o (all-at (is_counted ts) os i o all at_i) in
@@ -91,13 +104,18 @@ kept ts os i o p all at_i same few =
     all-set (is_counted ts) os i p all (within (had p) (1 + count_of ts p) (omega (arith, was, few, count)))
 
 -- an order whose replace was given a token
-pub replacing : (ts : List GivenToken) (t : GivenToken) (os : List OrderRecord) (i : ℕ) (o p : OrderRecord) → list_all (is_counted ts) os ≡ true → slice_get os i ≡ Some o → p.new ≡ o.new
-    → is_replacement_of o.new.order t ≡ true → had p ≤ had o + 1 → list_all (is_counted (ts ++ t ∷ [])) (slice_set os i p) ≡ true
+pub replacing : (ts : List GivenToken) (t : GivenToken) (os : List OrderRecord) (i : ℕ) (o p : OrderRecord)
+    → list_all (is_counted ts) os ≡ true → slice_get os i ≡ Some o → p.new ≡ o.new
+    → is_replacement_of o.new.order t ≡ true → had p ≤ had o + 1
+    → list_all (is_counted (ts ++ t ∷ [])) (slice_set os i p) ≡ true
 replacing ts t os i o p all at_i same own few =
     let was = counted-few ts o (all-at (is_counted ts) os i o all at_i) in
-    let pushed : count_of (ts ++ t ∷ []) o ≡ count_of ts o + 1 = count-push (is_replacement_of o.new.order) ts t ∙ ap (λ (b : Bool). count_of ts o + (if b then 1 else 0)) own in
-    let count : count_of (ts ++ t ∷ []) p ≡ count_of (ts ++ t ∷ []) o = ap (λ (e : Entry). count_by (is_replacement_of e.order) (ts ++ t ∷ [])) same in
-    all-set (is_counted (ts ++ t ∷ [])) os i p (all-more ts t os all) (within (had p) (1 + count_of (ts ++ t ∷ []) p) (omega (arith, was, few, count, pushed)))
+    let pushed : count_of (ts ++ t ∷ []) o ≡ count_of ts o + 1 = count-push (is_replacement_of o.new.order) ts t
+    ∙ ap (λ (b : Bool). count_of ts o + (if b then 1 else 0)) own in
+    let count : count_of (ts ++ t ∷ []) p ≡ count_of (ts ++ t ∷ []) o =
+    ap (λ (e : Entry). count_by (is_replacement_of e.order) (ts ++ t ∷ [])) same in
+    all-set (is_counted (ts ++ t ∷ [])) os i p (all-more ts t os all)
+    (within (had p) (1 + count_of (ts ++ t ∷ []) p) (omega (arith, was, few, count, pushed)))
 
 -- ---- what a change makes of it
 
@@ -109,14 +127,17 @@ over-new : (b : Bool) (o : OrderRecord) → (over_if b o).new ≡ o.new
 over-new true o = refl
 over-new false o = refl
 
-replaced-few : (shares price : ℕ) (is_dead : Bool) (o : OrderRecord) (qs : List Entry) → o.replaces ≡ qs → had (replaced_as shares price is_dead o qs) ≤ had o
+replaced-few : (shares price : ℕ) (is_dead : Bool) (o : OrderRecord) (qs : List Entry) → o.replaces ≡ qs
+    → had (replaced_as shares price is_dead o qs) ≤ had o
 replaced-few shares price is_dead o [] e = omega arith
 replaced-few shares price is_dead o (q ∷ qs) e =
-    let over = over-few is_dead (at (put_in_book shares price (renamed (token_of q) q o)) qs (still_after (bytes_eq (live_token o)) o.cancel)) in
+    let over = over-few is_dead (at (put_in_book shares price (renamed (token_of q) q o)) qs
+    (still_after (bytes_eq (live_token o)) o.cancel)) in
     let all : length o.replaces ≡ suc (length qs) = ap (λ (xs : List Entry). length xs) e in
     omega (arith, over, all)
 
-replaced-new : (shares price : ℕ) (is_dead : Bool) (o : OrderRecord) (qs : List Entry) → (replaced_as shares price is_dead o qs).new ≡ o.new
+replaced-new : (shares price : ℕ) (is_dead : Bool) (o : OrderRecord) (qs : List Entry)
+    → (replaced_as shares price is_dead o qs).new ≡ o.new
 replaced-new shares price is_dead o [] = refl
 replaced-new shares price true o (q ∷ qs) = refl
 replaced-new shares price false o (q ∷ qs) = refl
@@ -131,7 +152,8 @@ change-few (changes.Canceled shares) o = by_rest (o.unfilled - shares == 0)
     by_rest false = omega arith
 change-few (changes.Traded t) o = by_rest (o.unfilled - t.trade.shares == 0)
   where
-    by_rest : (b : Bool) → had (if b then unasked (filled t.number t.trade o) else with_trade t.number t.trade o) ≤ had o
+    by_rest : (b : Bool) → had (if b then unasked (filled t.number t.trade o) else with_trade t.number t.trade o) ≤ had
+        o
     by_rest true = omega arith
     by_rest false = omega arith
 change-few (changes.Broken t) o = omega arith
@@ -149,7 +171,8 @@ change-new (changes.Canceled shares) o = by_rest (o.unfilled - shares == 0)
     by_rest false = refl
 change-new (changes.Traded t) o = by_rest (o.unfilled - t.trade.shares == 0)
   where
-    by_rest : (b : Bool) → (if b then unasked (filled t.number t.trade o) else with_trade t.number t.trade o).new ≡ o.new
+    by_rest : (b : Bool) → (if b then unasked (filled t.number t.trade o) else with_trade t.number t.trade o).new
+        ≡ o.new
     by_rest true = refl
     by_rest false = refl
 change-new (changes.Broken t) o = refl
@@ -159,9 +182,14 @@ change-new (changes.NotCanceled token) o = refl
 
 -- ---- the order with an OrderID
 
-pub own-number : (order : List ℕ) (os : List OrderRecord) (i : ℕ) (o : OrderRecord) → IsNewest (has_number order) os i → slice_get os i ≡ Some o → o.new.order ≡ order
-own-number order os i o newest at_i = eq-is o.new.order order (found-passes (has_number order) (reverse os) o (newest.newest ∙ at_i))
+pub own-number : (order : List ℕ) (os : List OrderRecord) (i : ℕ) (o : OrderRecord) → IsNewest (has_number order) os i
+    → slice_get os i ≡ Some o → o.new.order ≡ order
+own-number order os i o newest at_i = eq-is o.new.order order
+    (found-passes (has_number order) (reverse os) o (newest.newest ∙ at_i))
 
 -- a token that a replace of it was given
-pub own-token : (order : List ℕ) (t : GivenToken) (o : OrderRecord) → o.new.order ≡ order → t.order ≡ order → t.is_replacement ≡ true → is_replacement_of o.new.order t ≡ true
-own-token order t o own of_order is_replacement = both (bytes_eq t.order o.new.order) t.is_replacement (eq-true t.order o.new.order (of_order ∙ sym own)) is_replacement
+pub own-token : (order : List ℕ) (t : GivenToken) (o : OrderRecord) → o.new.order ≡ order → t.order ≡ order
+    → t.is_replacement ≡ true → is_replacement_of o.new.order t ≡ true
+own-token order t o own of_order is_replacement =
+    both (bytes_eq t.order o.new.order) t.is_replacement
+    (eq-true t.order o.new.order (of_order ∙ sym own)) is_replacement

@@ -23,7 +23,9 @@ number-test m n m_small n_small = by_test (m == n) refl
   where
     by_test : (b : Bool) → (m == n) ≡ b → b ≡ bytes_eq (decimal m) (decimal n)
     by_test true e = sym (eq-true (decimal m) (decimal n) (ap decimal (eqb-true m n e)))
-    by_test false e = sym (eq-other (decimal m) (decimal n) (λ same. (let alike : m ≡ n = decimal-same m n (omega arith) (omega arith) same in let on : (m == n) ≡ true = eq-eqb m n alike in let x : true ≡ false = sym on ∙ e in cc)))
+    by_test false e = sym (eq-other (decimal m) (decimal n)
+        (λ same. (let alike : m ≡ n = decimal-same m n (omega arith) (omega arith) same in let on : (m == n) ≡ true =
+        eq-eqb m n alike in let x : true ≡ false = sym on ∙ e in cc)))
 
 -- ---- lists from their ends
 
@@ -31,12 +33,14 @@ set-last : {A : Type 0} (xs : List A) (y x : A) → slice_set (xs ++ y ∷ []) (
 set-last [] y x = refl
 set-last (a ∷ xs) y x = ap (λ zs. a ∷ zs) (set-last xs y x)
 
-set-front : {A : Type 0} (xs : List A) (y x : A) (k : ℕ) → k < length xs → slice_set (xs ++ y ∷ []) k x ≡ slice_set xs k x ++ y ∷ []
+set-front : {A : Type 0} (xs : List A) (y x : A) (k : ℕ) → k < length xs
+    → slice_set (xs ++ y ∷ []) k x ≡ slice_set xs k x ++ y ∷ []
 set-front [] y x k inside = absurd (omega arith)
 set-front (a ∷ xs) y x zero inside = refl
 set-front (a ∷ xs) y x (suc k) inside = ap (λ zs. a ∷ zs) (set-front xs y x k (omega arith))
 
-pub set-reverse : {A : Type 0} (xs : List A) (j : ℕ) (x : A) → j < length xs → reverse (slice_set xs j x) ≡ slice_set (reverse xs) (length xs - 1 - j) x
+pub set-reverse : {A : Type 0} (xs : List A) (j : ℕ) (x : A) → j < length xs
+    → reverse (slice_set xs j x) ≡ slice_set (reverse xs) (length xs - 1 - j) x
 set-reverse [] j x inside = absurd (omega arith)
 set-reverse {A = A} (y ∷ ys) zero x inside =
     let at : length (y ∷ ys) - 1 - 0 ≡ length (reverse ys) = omega (arith, length-reverse ys) in
@@ -72,15 +76,19 @@ put-in : (p : OrderRecord) (os : List OrderRecord) → put p os ≡ slice_set os
 put-in p [] = refl
 put-in p (o ∷ os) = by_number (has_number p.new.order o) (put-in p os)
   where
-    by_number : (b : Bool) → put p os ≡ slice_set os (place_in (has_number p.new.order) os) p → (if b then p ∷ os else o ∷ put p os) ≡ slice_set (o ∷ os) (if b then 0 else suc (place_in (has_number p.new.order) os)) p
+    by_number : (b : Bool) → put p os ≡ slice_set os (place_in (has_number p.new.order) os) p
+        → (if b then p ∷ os else o ∷ put p os) ≡ slice_set (o ∷ os)
+        (if b then 0 else suc (place_in (has_number p.new.order) os)) p
     by_number true e = refl
     by_number false e = ap (λ xs. o ∷ xs) e
 
-put-place : (p : OrderRecord) (os : List OrderRecord) → put p os ≡ slice_set os (position_or_len (has_number p.new.order) os) p
+put-place : (p : OrderRecord) (os : List OrderRecord)
+    → put p os ≡ slice_set os (position_or_len (has_number p.new.order) os) p
 put-place p os = put-in p os ∙ ap (λ n. slice_set os n p) (place_in-is (has_number p.new.order) os)
 
 -- an order with the number, written at the place
-pub put-newest : (order : List ℕ) (xs : List OrderRecord) (place : ℕ) (p : OrderRecord) → IsNewest (has_number order) xs place → p.new.order ≡ order → put p (reverse xs) ≡ reverse (slice_set xs place p)
+pub put-newest : (order : List ℕ) (xs : List OrderRecord) (place : ℕ) (p : OrderRecord)
+    → IsNewest (has_number order) xs place → p.new.order ≡ order → put p (reverse xs) ≡ reverse (slice_set xs place p)
 put-newest order xs place p newest same =
     put-place p (reverse xs)
     ∙ ap (λ (k : List ℕ). slice_set (reverse xs) (position_or_len (has_number k) (reverse xs)) p) same
@@ -93,9 +101,11 @@ pub same_some : {A : Type 0} (a b : A) → ◌≡◌ {A = Option A} (Some a) (So
 same_some a b e = cc
 
 -- the newest order with a number, made another that keeps its message
-pub change-newest : (order : List ℕ) (xs : List OrderRecord) (place : ℕ) (was : OrderRecord) (F : OrderRecord → OrderRecord) → ((x : OrderRecord) → (F x).new ≡ x.new)
+pub change-newest : (order : List ℕ) (xs : List OrderRecord) (place : ℕ) (was : OrderRecord)
+    (F : OrderRecord → OrderRecord) → ((x : OrderRecord) → (F x).new ≡ x.new)
     → IsNewest (has_number order) xs place → slice_get xs place ≡ Some was
-    → (o : OrderRecord) → find (has_number order) (reverse xs) ≡ Some o → reverse (slice_set xs place (F was)) ≡ put (F o) (reverse xs)
+    → (o : OrderRecord) → find (has_number order) (reverse xs) ≡ Some o
+    → reverse (slice_set xs place (F was)) ≡ put (F o) (reverse xs)
 change-newest order xs place was F keeps newest at o found =
     let it : was ≡ o = same_some was o (sym at ∙ sym newest.newest ∙ found) in
     let own : o.new.order ≡ order = eq-is o.new.order order (found-passes (has_number order) (reverse xs) o found) in
@@ -108,13 +118,16 @@ pub count-reverse : {A : Type 0} (test : A → Bool) (xs : List A) → count_by 
 count-reverse test [] = refl
 count-reverse {A = A} test (x ∷ xs) =
     ap (count_by test) (reverse-append (x ∷ []) xs)
-    ∙ (let pushed = count-push test (reverse xs) x in let rest = count-reverse test xs in let first = count-more test x xs in omega (arith, pushed, rest, first))
+    ∙ (let pushed = count-push test (reverse xs) x in let rest = count-reverse test xs in let first =
+    count-more test x xs in omega (arith, pushed, rest, first))
 
 -- ---- one trade more
 
-pub trades-pushed : {A B : Type 0} (f : A → B) (xs : List A) (x : A) → reverse (map f (xs ++ x ∷ [])) ≡ f x ∷ reverse (map f xs)
+pub trades-pushed : {A B : Type 0} (f : A → B) (xs : List A) (x : A)
+    → reverse (map f (xs ++ x ∷ [])) ≡ f x ∷ reverse (map f xs)
 trades-pushed f xs x = ap reverse (map-append f xs (x ∷ [])) ∙ reverse-append (map f xs) (f x ∷ [])
 
 -- what stands at a place
-pub at-place : {A : Type 0} (test : A → Bool) (xs : List A) (i : ℕ) (x y : A) → IsNewest test xs i → x ≡ get_or xs i x → y ≡ x → slice_get xs i ≡ Some y
+pub at-place : {A : Type 0} (test : A → Bool) (xs : List A) (i : ℕ) (x y : A) → IsNewest test xs i → x ≡ get_or xs i x
+    → y ≡ x → slice_get xs i ≡ Some y
 at-place test xs i x y newest value same = slice_get-get_or xs i x newest.inside ∙ ap Some (sym (same ∙ value))

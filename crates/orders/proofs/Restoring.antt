@@ -1,10 +1,12 @@
 -- An order that goes on from an earlier one is put back to it.
-use Rattle.std.proofs.Common.{◌≡◌, ℕ, ◌≤◌, ◌-◌, Bool, true, false, List, [], ◌∷◌, ◌++◌, length, map, take, drop, reverse, refl, sym, ap, ◌∙◌, arith, true≢false, ◌⊎◌, inl, inr}
+use Rattle.std.proofs.Common.{◌≡◌, ℕ, ◌≤◌, ◌-◌, Bool, true, false, List, [], ◌∷◌, ◌++◌, length, map, take, drop}
+use Rattle.std.proofs.Common.{reverse, refl, sym, ap, ◌∙◌, arith, true≢false, ◌⊎◌, inl, inr}
 use Rattle.std.specs.Prelude.{◌==◌, ◌||◌, Option, Some, None, is_some, option_map, unwrap_or, if◌then◌else◌, bytes_eq}
 use Rattle.std.proofs.Math.Seq.{take-length, take-append_seam}
 use Rattle.std.proofs.lemmas.List.{length-reverse, reverse-append, reverse-reverse, take-map}
 use Rattle.order_machine.specs.History.{Entry, token_of}
-use Rattle.order_machine.specs.OrderRecord.{OrderRecord, at, filled, gone, live_token, over_if, put_in_book, reduced, renamed, still_after, unasked, with_trade}
+use Rattle.order_machine.specs.OrderRecord.{OrderRecord, at, filled, gone, live_token, over_if, put_in_book, reduced}
+use Rattle.order_machine.specs.OrderRecord.{renamed, still_after, unasked, with_trade}
 use Rattle.order_machine.specs.OrderRecord as record_of
 use Rattle.orders.specs.Changes.{changed_by, marks_trades, renames, replaced_as}
 use Rattle.orders.specs.PutBack.{GoesOn, are_some, can_have_had, had_before, needs_memory, put_back, with_earlier}
@@ -24,7 +26,8 @@ abbrev pub Grown : {A : Type 0} → List A → List A → Type 0
 Grown {A} xs ys = (ys ≡ xs) ⊎ ((x : A) × (ys ≡ x ∷ xs))
 
 oldest-all : {A : Type 0} (xs : List A) → oldest (length xs) xs ≡ xs
-oldest-all xs = ap (λ n. reverse (take n (reverse xs))) (sym (length-reverse xs)) ∙ ap reverse (take-length (reverse xs)) ∙ reverse-reverse xs
+oldest-all xs = ap (λ n. reverse (take n (reverse xs))) (sym (length-reverse xs))
+    ∙ ap reverse (take-length (reverse xs)) ∙ reverse-reverse xs
 
 oldest-more : {A : Type 0} (x : A) (xs : List A) → oldest (length xs) (x ∷ xs) ≡ xs
 oldest-more x xs =
@@ -37,17 +40,20 @@ pub grown-oldest : {A : Type 0} (xs ys : List A) → Grown xs ys → oldest (len
 grown-oldest xs ys (inl same) = ap (oldest (length xs)) same ∙ oldest-all xs
 grown-oldest xs ys (inr (x, more)) = ap (oldest (length xs)) more ∙ oldest-more x xs
 
-behind-same : {A : Type 0} (xs : List A) → (oldest (length (drop 1 xs)) (drop 1 xs) ≡ drop 1 xs) × (length (drop 1 xs) ≤ length (drop 1 xs))
+behind-same : {A : Type 0} (xs : List A) → (oldest (length (drop 1 xs)) (drop 1 xs) ≡ drop 1 xs)
+    × (length (drop 1 xs) ≤ length (drop 1 xs))
 behind-same xs = (oldest-all (drop 1 xs), omega arith)
 
-behind-all : {A : Type 0} (xs : List A) → (oldest (length (drop 1 xs)) xs ≡ drop 1 xs) × (length (drop 1 xs) ≤ length xs)
+behind-all : {A : Type 0} (xs : List A) → (oldest (length (drop 1 xs)) xs ≡ drop 1 xs)
+    × (length (drop 1 xs) ≤ length xs)
 behind-all [] = (refl, omega arith)
 behind-all (x ∷ xs) = (oldest-more x xs, omega arith)
 
 Behind : {A : Type 0} → List A → List A → Type 0
 Behind xs ys = (oldest (length (drop 1 xs)) (drop 1 ys) ≡ drop 1 xs) × (length (drop 1 xs) ≤ length (drop 1 ys))
 
-grown-behind : {A : Type 0} (xs ys : List A) → Grown xs ys → (oldest (length (drop 1 xs)) (drop 1 ys) ≡ drop 1 xs) × (length (drop 1 xs) ≤ length (drop 1 ys))
+grown-behind : {A : Type 0} (xs ys : List A) → Grown xs ys
+    → (oldest (length (drop 1 xs)) (drop 1 ys) ≡ drop 1 xs) × (length (drop 1 xs) ≤ length (drop 1 ys))
 grown-behind xs ys (inl same) = rw same (behind-same xs)
 grown-behind xs ys (inr (x, more)) = rw more (behind-all xs)
 
@@ -59,24 +65,31 @@ pub record Leaves (marks named : Bool) (was now : OrderRecord) : Type 0 where
   pub id : named ≡ false → now.id ≡ was.id
   pub trades : marks ≡ false → Grown was.trades now.trades
 
-same : (marks named : Bool) (was now : OrderRecord) → now.new ≡ was.new → now.tokens ≡ was.tokens → now.id ≡ was.id → now.trades ≡ was.trades → Leaves marks named was now
-same marks named was now asked tokens id trades = record { asked = asked; tokens = inl tokens; id = λ e. id; trades = λ e. inl trades }
+same : (marks named : Bool) (was now : OrderRecord) → now.new ≡ was.new → now.tokens ≡ was.tokens → now.id ≡ was.id
+    → now.trades ≡ was.trades → Leaves marks named was now
+same marks named was now asked tokens id trades =
+    record { asked = asked; tokens = inl tokens; id = λ e. id; trades = λ e. inl trades }
 
-over : (marks named : Bool) (was now : OrderRecord) (b : Bool) → Leaves marks named was now → Leaves marks named was (over_if b now)
+over : (marks named : Bool) (was now : OrderRecord) (b : Bool) → Leaves marks named was now
+    → Leaves marks named was (over_if b now)
 over marks named was now true l = record { asked = l.asked; tokens = l.tokens; id = l.id; trades = l.trades }
 over marks named was now false l = l
 
 never : {P : Type 0} → true ≡ false → P
 never e = absurd (true≢false e)
 
-replaced : (shares price : ℕ) (is_dead : Bool) (o : OrderRecord) (rs : List Entry) → Leaves false true o (replaced_as shares price is_dead o rs)
+replaced : (shares price : ℕ) (is_dead : Bool) (o : OrderRecord) (rs : List Entry)
+    → Leaves false true o (replaced_as shares price is_dead o rs)
 replaced shares price is_dead o [] = same false true o o refl refl refl refl
 replaced shares price is_dead o (q ∷ qs) =
-    over false true o (at (put_in_book shares price (renamed (token_of q) q o)) qs (still_after (bytes_eq (live_token o)) o.cancel)) is_dead
+    over false true o (at (put_in_book shares price (renamed (token_of q) q o)) qs
+    (still_after (bytes_eq (live_token o)) o.cancel)) is_dead
     (record { asked = refl; tokens = inr (token_of q, refl); id = λ e. never e; trades = λ e. inl refl })
 
 pub leaves : (change : Change) (o : OrderRecord) → Leaves (marks_trades change) (renames change) o (changed_by change o)
-leaves (changes.Opened shares price is_dead) o = over false false o (put_in_book shares price o) is_dead (same false false o (put_in_book shares price o) refl refl refl refl)
+leaves (changes.Opened shares price is_dead) o =
+    over false false o (put_in_book shares price o) is_dead
+    (same false false o (put_in_book shares price o) refl refl refl refl)
 leaves (changes.Replaced shares price is_dead) o = replaced shares price is_dead o o.replaces
 leaves (changes.Canceled shares) o = by_rest (o.unfilled - shares == 0)
   where
@@ -85,15 +98,29 @@ leaves (changes.Canceled shares) o = by_rest (o.unfilled - shares == 0)
     by_rest false = same false false o (reduced shares o) refl refl refl refl
 leaves (changes.Traded t) o = by_rest (o.unfilled - t.trade.shares == 0)
   where
-    by_rest : (b : Bool) → Leaves false false o (if b then unasked (filled t.number t.trade o) else with_trade t.number t.trade o)
-    by_rest true = record { asked = refl; tokens = inl refl; id = λ e. refl; trades = λ e. inr (record { trade = t.trade; number = t.number }, refl) }
-    by_rest false = record { asked = refl; tokens = inl refl; id = λ e. refl; trades = λ e. inr (record { trade = t.trade; number = t.number }, refl) }
+    by_rest : (b : Bool) → Leaves false false o
+        (if b then unasked (filled t.number t.trade o) else with_trade t.number t.trade o)
+    by_rest true = record {
+      asked = refl;
+      tokens = inl refl;
+      id = λ e. refl;
+      trades =
+          λ e. inr (record { trade = t.trade; number = t.number }, refl);
+    }
+    by_rest false = record {
+      asked = refl;
+      tokens = inl refl;
+      id = λ e. refl;
+      trades =
+          λ e. inr (record { trade = t.trade; number = t.number }, refl);
+    }
 leaves (changes.Broken t) o = record { asked = refl; tokens = inl refl; id = λ e. refl; trades = λ e. never e }
 leaves changes.Refused o = same false false o (changed_by changes.Refused o) refl refl refl refl
 leaves changes.NotReplaced o = same false false o (changed_by changes.NotReplaced o) refl refl refl refl
 leaves (changes.NotCanceled token) o = same false false o (changed_by (changes.NotCanceled token) o) refl refl refl refl
 
-pub goes-on : (marks named : Bool) (was now : OrderRecord) (id : Option (List ℕ)) (trades : EarlierTrades) → Leaves marks named was now → unwrap_or id now.id ≡ was.id → told_before trades now.trades ≡ was.trades
+pub goes-on : (marks named : Bool) (was now : OrderRecord) (id : Option (List ℕ)) (trades : EarlierTrades)
+    → Leaves marks named was now → unwrap_or id now.id ≡ was.id → told_before trades now.trades ≡ was.trades
     → GoesOn id trades was now
 goes-on marks named was now id trades l is_named told = record {
   asked = l.asked;
@@ -104,8 +131,10 @@ goes-on marks named was now id trades l is_named told = record {
 }
 
 -- as many trades as there were
-pub first-trades : (marks named : Bool) (was now : OrderRecord) (earlier : EarlierTrades) → Leaves marks named was now → marks ≡ false → earlier ≡ First (length was.trades) → told_before earlier now.trades ≡ was.trades
-first-trades marks named was now earlier l e many = ap (λ x. told_before x now.trades) many ∙ grown-oldest was.trades now.trades (l.trades e)
+pub first-trades : (marks named : Bool) (was now : OrderRecord) (earlier : EarlierTrades) → Leaves marks named was now
+    → marks ≡ false → earlier ≡ First (length was.trades) → told_before earlier now.trades ≡ was.trades
+first-trades marks named was now earlier l e many = ap (λ x. told_before x now.trades) many
+    ∙ grown-oldest was.trades now.trades (l.trades e)
 
 -- what marks trades gives no other id
 pub marked-named : (change : Change) → marks_trades change ≡ true → renames change ≡ false
@@ -129,18 +158,37 @@ put-back-then e o fits = by-test (can_have_had e o) (with_earlier e o) o fits
 
 -- ---- as the fields have it
 
-pub told-of : (trades : EarlierTrades) (ts : List ToldTrade) → reverse (map told_seen (trades_before trades ts)) ≡ told_before trades (reverse (map told_seen ts))
-told-of (First n) ts = ap reverse (sym (take-map told_seen n ts)) ∙ ap (λ xs. reverse (take n xs)) (sym (reverse-reverse (map told_seen ts)))
+pub told-of : (trades : EarlierTrades) (ts : List ToldTrade)
+    → reverse (map told_seen (trades_before trades ts)) ≡ told_before trades (reverse (map told_seen ts))
+told-of (First n) ts = ap reverse (sym (take-map told_seen n ts))
+    ∙ ap (λ xs. reverse (take n xs)) (sym (reverse-reverse (map told_seen ts)))
 told-of (Unmarked unmarked) ts = refl
 
 pub oldest-of : (n : ℕ) (ts : List (List ℕ)) → reverse (take n ts) ≡ oldest n (reverse ts)
 oldest-of n ts = ap (λ xs. reverse (take n xs)) (sym (reverse-reverse ts))
 
-pub with-earlier-is : (e : EarlierOrder) (o : OrderRecord) (id : List ℕ) (behind : List (List ℕ)) (trades : List record_of.ToldTrade) (replaces : List Entry) (cancel : Option record_of.Cancelling) → id ≡ unwrap_or e.cl_ord_id o.id
-    → behind ≡ oldest e.earlier_count (had_before o) → trades ≡ told_before e.trades o.trades → replaces ≡ map (replace_of o) e.replaces → cancel ≡ option_map (cancel_of o) e.cancel
-    → record (progressed e.progress o) { id = id; tokens = e.token ∷ behind; trades = trades; replaces = replaces; cancel = cancel } ≡ with_earlier e o
+pub with-earlier-is : (e : EarlierOrder) (o : OrderRecord) (id : List ℕ) (behind : List (List ℕ))
+    (trades : List record_of.ToldTrade) (replaces : List Entry) (cancel : Option record_of.Cancelling)
+    → id ≡ unwrap_or e.cl_ord_id o.id
+    → behind ≡ oldest e.earlier_count (had_before o) → trades ≡ told_before e.trades o.trades
+    → replaces ≡ map (replace_of o) e.replaces → cancel ≡ option_map (cancel_of o) e.cancel
+    → record (progressed e.progress o) {
+      id = id;
+      tokens = e.token ∷ behind;
+      trades = trades;
+      replaces =
+          replaces;
+      cancel = cancel;
+    } ≡ with_earlier e o
 with-earlier-is e o id behind trades replaces cancel ids tokens told requests cancels =
-    (λ j. record (progressed e.progress o) { id = ids j; tokens = e.token ∷ tokens j; trades = told j; replaces = requests j; cancel = cancels j })
+    (λ j. record (progressed e.progress o) {
+      id = ids j;
+      tokens = e.token ∷ tokens j;
+      trades = told j;
+      replaces =
+          requests j;
+      cancel = cancels j;
+    })
 
 -- ---- what takes no memory
 
@@ -158,12 +206,19 @@ none-pending (q ∷ qs) e = never e
 
 -- of an order without pending requests as it was, which a change neither renames nor marks
 pub light-before : (change : Change) (o : OrderRecord) (earlier : EarlierOrder) → needs_memory change o ≡ false
-    → (o.replaces ≡ [] → o.cancel ≡ None → (now : OrderRecord) → GoesOn None (First (length o.trades)) o now → put_back earlier now ≡ o) → put_back earlier (changed_by change o) ≡ o
+    → (o.replaces ≡ [] → o.cancel ≡ None → (now : OrderRecord) → GoesOn None (First (length o.trades)) o now
+    → put_back earlier now ≡ o) → put_back earlier (changed_by change o) ≡ o
 light-before change o earlier light back =
-    let parts : ((marks_trades change || renames change) ≡ false) × ((are_some o.replaces || is_some o.cancel) ≡ false) = neither (marks_trades change || renames change) (are_some o.replaces || is_some o.cancel) light in
-    let marks : (marks_trades change ≡ false) × (renames change ≡ false) = neither (marks_trades change) (renames change) parts.0 in
-    let asked : (are_some o.replaces ≡ false) × (is_some o.cancel ≡ false) = neither (are_some o.replaces) (is_some o.cancel) parts.1 in
+    let parts : ((marks_trades change || renames change) ≡ false)
+    × ((are_some o.replaces || is_some o.cancel) ≡ false) =
+    neither (marks_trades change || renames change) (are_some o.replaces || is_some o.cancel) light in
+    let marks : (marks_trades change ≡ false) × (renames change ≡ false) =
+    neither (marks_trades change) (renames change) parts.0 in
+    let asked : (are_some o.replaces ≡ false) × (is_some o.cancel ≡ false) =
+    neither (are_some o.replaces) (is_some o.cancel) parts.1 in
     let left : Leaves (marks_trades change) (renames change) o (changed_by change o) = leaves change o in
     back (none-pending o.replaces asked.0) (none-there o.cancel asked.1) (changed_by change o)
-    (goes-on (marks_trades change) (renames change) o (changed_by change o) None (First (length o.trades)) left (left.id marks.1)
-    (first-trades (marks_trades change) (renames change) o (changed_by change o) (First (length o.trades)) left marks.0 refl))
+    (goes-on (marks_trades change) (renames change) o (changed_by change o) None (First (length o.trades)) left
+    (left.id marks.1)
+    (first-trades (marks_trades change) (renames change) o (changed_by change o)
+    (First (length o.trades)) left marks.0 refl))

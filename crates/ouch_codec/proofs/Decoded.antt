@@ -1,5 +1,6 @@
 -- What is read of bytes is what `decode` answers of them.
-use Rattle.std.proofs.Common.{◌≡◌, ◌≢◌, ℕ, Bool, true, false, List, [], ◌∷◌, length, refl, sym, ap, subst, ◌∙◌, arith, ◌<◌, suc, Result, Ok, Err, Option, Some, None, eqb-true}
+use Rattle.std.proofs.Common.{◌≡◌, ◌≢◌, ℕ, Bool, true, false, List, [], ◌∷◌, length, refl, sym, ap, subst, ◌∙◌, arith}
+use Rattle.std.proofs.Common.{◌<◌, suc, Result, Ok, Err, Option, Some, None, eqb-true}
 use Rattle.std.proofs.lemmas.Bool.{false≢true}
 use Rattle.std.proofs.lemmas.Bool.Decides.{nat_tests}
 use Rattle.std.specs.Prelude.{◌==◌, ◌&&◌, nat_lt, if◌then◌else◌, slice_get}
@@ -27,12 +28,14 @@ use Rattle.ouch_codec.specs.Decoding.{Decodes, Refuses, RefusesAs, RefusesByType
 use Rattle.ouch_codec.specs.Values.{is_byte, are_message, below, value_of, by_fields, as_message, decoded}
 
 -- the value of bytes is written as them
-written-value_of : {M : Type 0} {kinds : List Kind} (laid_out : LaidOut M kinds) (bytes : List ℕ) (e : are_message kinds bytes ≡ true) → bytes ≡ written laid_out (value_of laid_out bytes e)
+written-value_of : {M : Type 0} {kinds : List Kind} (laid_out : LaidOut M kinds) (bytes : List ℕ)
+    (e : are_message kinds bytes ≡ true) → bytes ≡ written laid_out (value_of laid_out bytes e)
 written-value_of {M} {kinds} laid_out bytes e =
     let parts = both (list_all is_byte bytes) (is_message kinds bytes) e in
     let all = below bytes parts.0 in
     let message = IsMessage-passed kinds bytes parts.1 in
-    sym (ap (spelled kinds) (laid_out.remade (row_at kinds 0 bytes) (AreValues-row_at kinds 0 bytes all message)) ∙ spelled-row_at kinds 0 bytes all message)
+    sym (ap (spelled kinds) (laid_out.remade (row_at kinds 0 bytes) (AreValues-row_at kinds 0 bytes all message))
+    ∙ spelled-row_at kinds 0 bytes all message)
 
 same : (m n : ℕ) → (m == n) ≡ true → m ≡ n
 same m n e = grind (arith, nat_tests)
@@ -41,11 +44,17 @@ other : (m n : ℕ) → (m == n) ≡ false → m ≢ n
 other m n e = grind (arith, nat_tests)
 
 -- bytes of a type, as a message of its layout
-module _ {M : Type 0} {kinds : List Kind} (laid_out : LaidOut M kinds) (outbound : M → Outbound) (bytes : List ℕ) (all : list_all is_byte bytes ≡ true)
+module _ {M : Type 0} {kinds : List Kind} (laid_out : LaidOut M kinds) (outbound : M → Outbound) (bytes : List ℕ)
+    (all : list_all is_byte bytes ≡ true)
     (ok : (m : M) → bytes ≡ written laid_out m → Decodes bytes (Ok (outbound m))) (err : (r : DecodeRefusal) → RefusesAs (total kinds) (IsMessage kinds) bytes r → Refuses bytes r) where
-  fields-decodes : length bytes ≡ total kinds → (b : Bool) (e : are_message kinds bytes ≡ b) → Decodes bytes (by_fields laid_out outbound bytes b e)
+  fields-decodes : length bytes ≡ total kinds → (b : Bool) (e : are_message kinds bytes ≡ b)
+      → Decodes bytes (by_fields laid_out outbound bytes b e)
   fields-decodes long true e = ok (value_of laid_out bytes e) (written-value_of laid_out bytes e)
-  fields-decodes long false e = err refusals.Field (long, λ message. let is_one = is_message-passes kinds bytes message in false≢true (sym e ∙ rw (all, is_one) refl))
+  fields-decodes long false e = err refusals.Field (
+    long,
+    λ message. let is_one = is_message-passes kinds bytes message in
+        false≢true (sym e ∙ rw (all, is_one) refl),
+  )
 
   pub as_message-decodes : Decodes bytes (as_message laid_out outbound bytes)
   as_message-decodes = by_length (length bytes == total kinds) refl
@@ -61,10 +70,14 @@ turned m n e = grind (arith, nat_tests)
 abbrev Right : List ℕ → ℕ → Type 0
 Right bytes b = list_all is_byte (b ∷ bytes) ≡ true → Decodes (b ∷ bytes) (decoded (b ∷ bytes))
 
-of_type : {M : Type 0} {kinds : List Kind} (laid_out : LaidOut M kinds) (outbound : M → Outbound) (k : ℕ) (bytes : List ℕ)
-    → ((m : M) → k ∷ bytes ≡ written laid_out m → Decodes (k ∷ bytes) (Ok (outbound m))) → ((r : DecodeRefusal) → RefusesAs (total kinds) (IsMessage kinds) (k ∷ bytes) r → Refuses (k ∷ bytes) r)
+of_type : {M : Type 0} {kinds : List Kind} (laid_out : LaidOut M kinds) (outbound : M → Outbound) (k : ℕ)
+    (bytes : List ℕ)
+    → ((m : M) → k ∷ bytes ≡ written laid_out m → Decodes (k ∷ bytes) (Ok (outbound m)))
+    → ((r : DecodeRefusal) → RefusesAs (total kinds) (IsMessage kinds) (k ∷ bytes) r → Refuses (k ∷ bytes) r)
     → decoded (k ∷ bytes) ≡ as_message laid_out outbound (k ∷ bytes) → Right bytes k
-of_type laid_out outbound k bytes ok err e all = subst (λ (r : Result Outbound DecodeRefusal). Decodes (k ∷ bytes) r) (sym e) (as_message-decodes laid_out outbound (k ∷ bytes) all ok err)
+of_type laid_out outbound k bytes ok err e all =
+    subst (λ (r : Result Outbound DecodeRefusal). Decodes (k ∷ bytes) r) (sym e)
+    (as_message-decodes laid_out outbound (k ∷ bytes) all ok err)
 
 pub decoded-Decodes : (bytes : List ℕ) → list_all is_byte bytes ≡ true → Decodes bytes (decoded bytes)
 decoded-Decodes [] all = refl
@@ -73,31 +86,44 @@ decoded-Decodes (b ∷ bytes) all = by_s (b == 83) refl all
     as_type : (k : ℕ) → (b == k) ≡ true → Right bytes k → Right bytes b
     as_type k e right = subst (λ (x : ℕ). Right bytes x) (sym (same b k e)) right
 
-    by_t : (b == 83) ≡ false → (b == 65) ≡ false → (b == 85) ≡ false → (b == 67) ≡ false → (b == 69) ≡ false → (b == 66) ≡ false → (b == 74) ≡ false → (b == 80) ≡ false → (b == 73) ≡ false → (t : Bool) → (b == 84) ≡ t → Right bytes b
+    by_t : (b == 83) ≡ false → (b == 65) ≡ false → (b == 85) ≡ false → (b == 67) ≡ false → (b == 69) ≡ false
+        → (b == 66) ≡ false → (b == 74) ≡ false → (b == 80) ≡ false → (b == 73) ≡ false → (t : Bool) → (b == 84) ≡ t
+        → Right bytes b
     by_t s a u c e x j p i true t = as_type 84 t (λ all. refl)
     by_t s a u c e x j p i false t = λ all.
-        let s2 = turned b 83 s in let a2 = turned b 65 a in let u2 = turned b 85 u in let c2 = turned b 67 c in let e2 = turned b 69 e in let x2 = turned b 66 x in let j2 = turned b 74 j in let p2 = turned b 80 p in let i2 = turned b 73 i in
+        let s2 = turned b 83 s in let a2 = turned b 65 a in let u2 = turned b 85 u in let c2 = turned b 67 c in let e2 =
+        turned b 69 e in let x2 = turned b 66 x in let j2 = turned b 74 j in let p2 = turned b 80 p in let i2 =
+        turned b 73 i in
         let type : Refuses (b ∷ bytes) refusals.Type = rw (s2, a2, u2, c2, e2, x2, j2, p2, i2) (other b 84 t, refl) in
         simp (s, a, u, c, e, x, j, p, i, t) type
 
-    by_i : (b == 83) ≡ false → (b == 65) ≡ false → (b == 85) ≡ false → (b == 67) ≡ false → (b == 69) ≡ false → (b == 66) ≡ false → (b == 74) ≡ false → (b == 80) ≡ false → (t : Bool) → (b == 73) ≡ t → Right bytes b
-    by_i s a u c e x j p true t = as_type 73 t (of_type cancel_reject_laid_out outbounds.CancelReject 73 bytes (λ m e. e) (λ r e. e) refl)
+    by_i : (b == 83) ≡ false → (b == 65) ≡ false → (b == 85) ≡ false → (b == 67) ≡ false → (b == 69) ≡ false
+        → (b == 66) ≡ false → (b == 74) ≡ false → (b == 80) ≡ false → (t : Bool) → (b == 73) ≡ t → Right bytes b
+    by_i s a u c e x j p true t = as_type 73 t
+        (of_type cancel_reject_laid_out outbounds.CancelReject 73 bytes (λ m e. e) (λ r e. e) refl)
     by_i s a u c e x j p false t = by_t s a u c e x j p t (b == 84) refl
 
-    by_p : (b == 83) ≡ false → (b == 65) ≡ false → (b == 85) ≡ false → (b == 67) ≡ false → (b == 69) ≡ false → (b == 66) ≡ false → (b == 74) ≡ false → (t : Bool) → (b == 80) ≡ t → Right bytes b
-    by_p s a u c e x j true t = as_type 80 t (of_type cancel_pending_laid_out outbounds.CancelPending 80 bytes (λ m e. e) (λ r e. e) refl)
+    by_p : (b == 83) ≡ false → (b == 65) ≡ false → (b == 85) ≡ false → (b == 67) ≡ false → (b == 69) ≡ false
+        → (b == 66) ≡ false → (b == 74) ≡ false → (t : Bool) → (b == 80) ≡ t → Right bytes b
+    by_p s a u c e x j true t = as_type 80 t (of_type cancel_pending_laid_out outbounds.CancelPending 80 bytes
+        (λ m e. e) (λ r e. e) refl)
     by_p s a u c e x j false t = by_i s a u c e x j t (b == 73) refl
 
-    by_j : (b == 83) ≡ false → (b == 65) ≡ false → (b == 85) ≡ false → (b == 67) ≡ false → (b == 69) ≡ false → (b == 66) ≡ false → (t : Bool) → (b == 74) ≡ t → Right bytes b
-    by_j s a u c e x true t = as_type 74 t (of_type rejected_laid_out outbounds.Rejected 74 bytes (λ m e. e) (λ r e. e) refl)
+    by_j : (b == 83) ≡ false → (b == 65) ≡ false → (b == 85) ≡ false → (b == 67) ≡ false → (b == 69) ≡ false
+        → (b == 66) ≡ false → (t : Bool) → (b == 74) ≡ t → Right bytes b
+    by_j s a u c e x true t = as_type 74 t (of_type rejected_laid_out outbounds.Rejected 74 bytes (λ m e. e)
+        (λ r e. e) refl)
     by_j s a u c e x false t = by_p s a u c e x t (b == 80) refl
 
-    by_b : (b == 83) ≡ false → (b == 65) ≡ false → (b == 85) ≡ false → (b == 67) ≡ false → (b == 69) ≡ false → (t : Bool) → (b == 66) ≡ t → Right bytes b
+    by_b : (b == 83) ≡ false → (b == 65) ≡ false → (b == 85) ≡ false → (b == 67) ≡ false → (b == 69) ≡ false
+        → (t : Bool) → (b == 66) ≡ t → Right bytes b
     by_b s a u c e true t = as_type 66 t (of_type broken_laid_out outbounds.Broken 66 bytes (λ m e. e) (λ r e. e) refl)
     by_b s a u c e false t = by_j s a u c e t (b == 74) refl
 
-    by_e : (b == 83) ≡ false → (b == 65) ≡ false → (b == 85) ≡ false → (b == 67) ≡ false → (t : Bool) → (b == 69) ≡ t → Right bytes b
-    by_e s a u c true t = as_type 69 t (of_type executed_laid_out outbounds.Executed 69 bytes (λ m e. e) (λ r e. e) refl)
+    by_e : (b == 83) ≡ false → (b == 65) ≡ false → (b == 85) ≡ false → (b == 67) ≡ false → (t : Bool) → (b == 69) ≡ t
+        → Right bytes b
+    by_e s a u c true t = as_type 69 t (of_type executed_laid_out outbounds.Executed 69 bytes (λ m e. e)
+        (λ r e. e) refl)
     by_e s a u c false t = by_b s a u c t (b == 66) refl
 
     by_c : (b == 83) ≡ false → (b == 65) ≡ false → (b == 85) ≡ false → (t : Bool) → (b == 67) ≡ t → Right bytes b
@@ -122,4 +148,5 @@ below-test m n h = grind (arith, nat_tests)
 -- what stands in memory is bytes
 pub are_bytes : (bytes : List ℕ) → AreBytes bytes → list_all is_byte bytes ≡ true
 are_bytes [] all = refl
-are_bytes (b ∷ bytes) all = let first = below-test b 256 (all 0) in let rest = are_bytes bytes (λ i. all (suc i)) in rw (first, rest) refl
+are_bytes (b ∷ bytes) all = let first = below-test b 256 (all 0) in let rest = are_bytes bytes (λ i. all (suc i)) in
+    rw (first, rest) refl

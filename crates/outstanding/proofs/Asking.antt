@@ -11,9 +11,14 @@ found-always order (SaysNew token) = tt
 found-always order (SaysReplace from to) = refl
 found-always order (SaysCancel token) = refl
 
-always-finds : (order : List ℕ) (asks : List Asked) → Each (λ (a : Asked). a.order ≡ order) asks → Each (Finds (always order)) asks
+always-finds : (order : List ℕ) (asks : List Asked) → Each (λ (a : Asked). a.order ≡ order) asks
+    → Each (Finds (always order)) asks
 always-finds order [] of_order = tt
-always-finds order (a ∷ asks) of_order = (subst (λ (k : List ℕ). Finds (always k) a) of_order.0 (found-always a.order a.said), always-finds order asks of_order.1)
+always-finds order (a ∷ asks) of_order = (
+  subst (λ (k : List ℕ). Finds (always k) a) of_order.0
+      (found-always a.order a.said),
+  always-finds order asks of_order.1,
+)
 
 pub said-of-order : SaidOfOrder
 said-of-order standing order asks messages of_order says = says (always order) (always-finds order asks of_order)

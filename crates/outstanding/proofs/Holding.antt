@@ -14,15 +14,21 @@ number-test m n m_small n_small = by_test (m == n) refl
   where
     by_test : (b : Bool) → (m == n) ≡ b → b ≡ bytes_eq (decimal m) (decimal n)
     by_test true e = sym (eq-true (decimal m) (decimal n) (ap decimal (eqb-true m n e)))
-    by_test false e = sym (eq-other (decimal m) (decimal n) (λ same. (let alike : m ≡ n = decimal-same m n (omega arith) (omega arith) same in let on : (m == n) ≡ true = eq-eqb m n alike in let x : true ≡ false = sym on ∙ e in cc)))
+    by_test false e = sym (eq-other (decimal m) (decimal n)
+        (λ same. (let alike : m ≡ n = decimal-same m n (omega arith) (omega arith) same in let on : (m == n) ≡ true =
+        eq-eqb m n alike in let x : true ≡ false = sym on ∙ e in cc)))
 
 -- a message is answered as its fields have it
-pub answered-by_fields : (asked : AskedMessage) (port : ℕ) (m : Outbound) (next : List (List ℕ)) (order_id : ℕ) (is_closed : Bool) → asked.order_id < 2 ^ 64 → order_id < 2 ^ 64
+pub answered-by_fields : (asked : AskedMessage) (port : ℕ) (m : Outbound) (next : List (List ℕ)) (order_id : ℕ)
+    (is_closed : Bool) → asked.order_id < 2 ^ 64 → order_id < 2 ^ 64
     → is_answered_by port m next (decimal order_id) is_closed (seen asked)
-    ≡ (asked.port == port && (asked.order_id == order_id && (answers m next (asked_by_fields asked.message) || is_closed)))
+    ≡ (asked.port == port && (asked.order_id == order_id
+    && (answers m next (asked_by_fields asked.message) || is_closed)))
 answered-by_fields asked port m next order_id is_closed small small' =
-    ap (λ (s : Said). asked.port == port && (bytes_eq (decimal asked.order_id) (decimal order_id) && (answers m next s || is_closed))) (said_in-written asked.message)
-    ∙ ap (λ (b : Bool). asked.port == port && (b && (answers m next (asked_by_fields asked.message) || is_closed))) (sym (number-test asked.order_id order_id small small'))
+    ap (λ (s : Said). asked.port == port && (bytes_eq (decimal asked.order_id) (decimal order_id)
+    && (answers m next s || is_closed))) (said_in-written asked.message)
+    ∙ ap (λ (b : Bool). asked.port == port && (b && (answers m next (asked_by_fields asked.message) || is_closed)))
+    (sym (number-test asked.order_id order_id small small'))
 
 -- what a message answers of an order on a port, by each test
 pub is-answer : (p o x c : Bool) → p ≡ true → o ≡ true → x ≡ true → (p && (o && (x || c))) ≡ true

@@ -58,10 +58,14 @@ said_in-is (SaysCancel token) m h =
 pub said_in-written : (message : Inbound) → asked_by_bytes (inbound_bytes message) ≡ asked_by_fields message
 said_in-written (Enter message) =
     let says = SaysEnterOrder-written message in
-    said_in-is (SaysNew message.token) (spelled layouts.enter_order_layout (enter_order_row message)) (ap (λ (b : ℕ). b == 79) says.type, says.token)
+    said_in-is (SaysNew message.token) (spelled layouts.enter_order_layout (enter_order_row message))
+    (ap (λ (b : ℕ). b == 79) says.type, says.token)
 said_in-written (Replace message) =
     let says = SaysReplace-written message in
-    said_in-is (SaysReplace message.token message.replacement_token) (spelled layouts.replace_layout (replace_row message)) (ap (λ (b : ℕ). b == 85) says.type, says.token, says.replacement_token)
+    said_in-is (SaysReplace message.token message.replacement_token)
+    (spelled layouts.replace_layout (replace_row message))
+    (ap (λ (b : ℕ). b == 85) says.type, says.token, says.replacement_token)
 said_in-written (Cancel message) =
     let says = SaysCancel-written message in
-    said_in-is (SaysCancel message.token) (spelled layouts.cancel_layout (cancel_row message)) (ap (λ (b : ℕ). b == 88) says.type, says.token)
+    said_in-is (SaysCancel message.token) (spelled layouts.cancel_layout (cancel_row message))
+    (ap (λ (b : ℕ). b == 88) says.type, says.token)

@@ -12,14 +12,17 @@ use Rattle.same_records.specs.Apart.{DifferBehind}
 use Rattle.same_days.specs.Same.{IsOtherAt, IsSameDay}
 
 -- the records of pages of which a day is
-records-of : (k : Kept) (pages : List (List ℕ)) → k ≡ kept_in pages → (left : List Record) → left ≡ day_records Two pages → day_records Two k.pages ≡ left
+records-of : (k : Kept) (pages : List (List ℕ)) → k ≡ kept_in pages → (left : List Record)
+    → left ≡ day_records Two pages → day_records Two k.pages ≡ left
 records-of k pages is left lent = ap (λ (h : Kept). day_records Two h.pages) is ∙ sym lent
 
-same-day : (a b : Kept) (p q : List (List ℕ)) → a ≡ kept_in p → b ≡ kept_in q → day_records Two p ≡ day_records Two q → IsSameDay a b
+same-day : (a b : Kept) (p q : List (List ℕ)) → a ≡ kept_in p → b ≡ kept_in q → day_records Two p ≡ day_records Two q
+    → IsSameDay a b
 same-day a b p q first second records = record {
   events = ap (λ (k : Kept). k.events) first ∙ ap events_in records ∙ sym (ap (λ (k : Kept). k.events) second);
   batches = ap (λ (k : Kept). k.batches) first ∙ ap batches_in records ∙ sym (ap (λ (k : Kept). k.batches) second);
-  records = ap (λ (k : Kept). day_records Two k.pages) first ∙ records ∙ sym (ap (λ (k : Kept). day_records Two k.pages) second);
+  records = ap (λ (k : Kept). day_records Two k.pages) first ∙ records
+      ∙ sym (ap (λ (k : Kept). day_records Two k.pages) second);
 }
 
 pub compared : (a b : Kept) (p q : List (List ℕ)) (left right : List Record) → a ≡ kept_in p → b ≡ kept_in q
@@ -34,4 +37,5 @@ compared a b p q left right first second lent other (Some place) differ =
 -- the same turns
 pub turns-same : (a b : Kept) → IsSameDay a b → turns a ≡ turns b
 turns-same a b same =
-    ap (λ (es : List Event). turns_onto es a.batches []) same.events ∙ ap (λ (bs : List Batch). turns_onto b.events bs []) same.batches
+    ap (λ (es : List Event). turns_onto es a.batches []) same.events
+    ∙ ap (λ (bs : List Batch). turns_onto b.events bs []) same.batches

@@ -14,21 +14,27 @@ pub record SameSoFar (batches : ℕ) (rs ss left right : List Record) : Type 0 w
 pub none-yet : (rs ss : List Record) → SameSoFar 0 rs ss rs ss
 none-yet rs ss = record { front = []; first = refl; second = refl; count = refl }
 
-counted-more : (n : ℕ) (front : List Record) (r : Record) → batches_behind n (front ++ r ∷ []) ≡ with_record (batches_behind n front) r.kind
+counted-more : (n : ℕ) (front : List Record) (r : Record)
+    → batches_behind n (front ++ r ∷ []) ≡ with_record (batches_behind n front) r.kind
 counted-more n [] r = refl
 counted-more n (x ∷ front) r = counted-more (with_record n x.kind) front r
 
-pub one-more : (n m : ℕ) (kind : RecordKind) (r s : Record) (rs ss left right behind further : List Record) → SameSoFar n rs ss left right
-    → left ≡ r ∷ behind → right ≡ s ∷ further → r ≡ s → kind ≡ r.kind → m ≡ with_record n kind → SameSoFar m rs ss behind further
+pub one-more : (n m : ℕ) (kind : RecordKind) (r s : Record) (rs ss left right behind further : List Record)
+    → SameSoFar n rs ss left right
+    → left ≡ r ∷ behind → right ≡ s ∷ further → r ≡ s → kind ≡ r.kind → m ≡ with_record n kind
+    → SameSoFar m rs ss behind further
 one-more n m kind r s rs ss left right behind further same first second equal is count = record {
   front = same.front ++ r ∷ [];
   first = same.first ∙ ap (λ (l : List Record). same.front ++ l) first ∙ sym (append_assoc same.front (r ∷ []) behind);
-  second = same.second ∙ ap (λ (l : List Record). same.front ++ l) (second ∙ ap (λ (x : Record). x ∷ further) (sym equal))
+  second = same.second ∙ ap (λ (l : List Record). same.front ++ l)
+      (second ∙ ap (λ (x : Record). x ∷ further) (sym equal))
       ∙ sym (append_assoc same.front (r ∷ []) further);
-  count = count ∙ ap (with_record n) is ∙ ap (λ (k : ℕ). with_record k r.kind) same.count ∙ sym (counted-more 0 same.front r);
+  count = count ∙ ap (with_record n) is ∙ ap (λ (k : ℕ). with_record k r.kind) same.count
+      ∙ sym (counted-more 0 same.front r);
 }
 
-pub part-here : (n : ℕ) (rs ss left right : List Record) → SameSoFar n rs ss left right → FirstDiffer left right → DifferBehind n rs ss
+pub part-here : (n : ℕ) (rs ss left right : List Record) → SameSoFar n rs ss left right → FirstDiffer left right
+    → DifferBehind n rs ss
 part-here n rs ss left right same apart = record {
   front = same.front;
   left = left;
@@ -39,18 +45,25 @@ part-here n rs ss left right same apart = record {
   count = same.count;
 }
 
-pub differ-both : (r s : Record) (left right behind further : List Record) → left ≡ r ∷ behind → right ≡ s ∷ further → (r ≡ s → ⊥) → FirstDiffer left right
+pub differ-both : (r s : Record) (left right behind further : List Record) → left ≡ r ∷ behind → right ≡ s ∷ further
+    → (r ≡ s → ⊥) → FirstDiffer left right
 differ-both r s left right behind further first second apart =
-    subst (λ (l : List Record). FirstDiffer l right) (sym first) (subst (λ (l : List Record). FirstDiffer (r ∷ behind) l) (sym second) apart)
+    subst (λ (l : List Record). FirstDiffer l right) (sym first)
+    (subst (λ (l : List Record). FirstDiffer (r ∷ behind) l) (sym second) apart)
 
-pub differ-left : (r : Record) (left right behind : List Record) → left ≡ r ∷ behind → right ≡ [] → FirstDiffer left right
+pub differ-left : (r : Record) (left right behind : List Record) → left ≡ r ∷ behind → right ≡ []
+    → FirstDiffer left right
 differ-left r left right behind first second =
-    subst (λ (l : List Record). FirstDiffer l right) (sym first) (subst (λ (l : List Record). FirstDiffer (r ∷ behind) l) (sym second) tt)
+    subst (λ (l : List Record). FirstDiffer l right) (sym first)
+    (subst (λ (l : List Record). FirstDiffer (r ∷ behind) l) (sym second) tt)
 
-pub differ-right : (s : Record) (left right further : List Record) → left ≡ [] → right ≡ s ∷ further → FirstDiffer left right
+pub differ-right : (s : Record) (left right further : List Record) → left ≡ [] → right ≡ s ∷ further
+    → FirstDiffer left right
 differ-right s left right further first second =
-    subst (λ (l : List Record). FirstDiffer l right) (sym first) (subst (λ (l : List Record). FirstDiffer [] l) (sym second) tt)
+    subst (λ (l : List Record). FirstDiffer l right) (sym first)
+    (subst (λ (l : List Record). FirstDiffer [] l) (sym second) tt)
 
-pub same-whole : (n : ℕ) (rs ss left right : List Record) → SameSoFar n rs ss left right → left ≡ [] → right ≡ [] → rs ≡ ss
+pub same-whole : (n : ℕ) (rs ss left right : List Record) → SameSoFar n rs ss left right → left ≡ [] → right ≡ []
+    → rs ≡ ss
 same-whole n rs ss left right same first second =
     same.first ∙ ap (λ (l : List Record). same.front ++ l) (first ∙ sym second) ∙ sym same.second

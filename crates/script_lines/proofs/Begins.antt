@@ -15,6 +15,8 @@ same_bytes (x ∷ xs) (y ∷ ys) h =
     cc
 
 -- a text that begins so is this and what stands behind it
-pub begins : (count : ℕ) (name text rest : List ℕ) → bytes_eq (take count text) name ≡ true → rest ≡ drop count text → text ≡ name ++ rest
+pub begins : (count : ℕ) (name text rest : List ℕ) → bytes_eq (take count text) name ≡ true → rest ≡ drop count text
+    → text ≡ name ++ rest
 begins count name text rest h behind =
-    sym (take-append-drop count text) ∙ (ap (λ front. front ++ drop count text) (same_bytes (take count text) name h) ∙ ap (λ back. name ++ back) (sym behind))
+    sym (take-append-drop count text) ∙ (ap (λ front. front ++ drop count text) (same_bytes (take count text) name h)
+    ∙ ap (λ back. name ++ back) (sym behind))

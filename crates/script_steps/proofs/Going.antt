@@ -24,13 +24,15 @@ unfolding ScriptGoesOn
 one-on old new e b kept more step is s before after =
     subst (λ (h : History). IsAfter s (h ++ before) new) (sym is) (step s (turns kept ++ before) after)
 
-pub onward : (s : Settings) (old new : CoreState) (kept more : Kept) → ScriptGoesOn old kept new more → IsAfter s (turns kept) old → IsAfter s (turns more) new
+pub onward : (s : Settings) (old new : CoreState) (kept more : Kept) → ScriptGoesOn old kept new more
+    → IsAfter s (turns kept) old → IsAfter s (turns more) new
 unfolding ScriptGoesOn
 onward s old new kept more on is =
     subst (λ (h : History). IsAfter s h new) (append-nil (turns more))
     (on s [] (subst (λ (h : History). IsAfter s h old) (sym (append-nil (turns kept))) is))
 
-pub from-nothing : (s : Settings) (old new : CoreState) (kept more : Kept) → kept ≡ nothing_kept → ScriptGoesOn old kept new more → IsAfter s [] old → IsAfter s (turns more) new
+pub from-nothing : (s : Settings) (old new : CoreState) (kept more : Kept) → kept ≡ nothing_kept
+    → ScriptGoesOn old kept new more → IsAfter s [] old → IsAfter s (turns more) new
 from-nothing s old new kept more none on is =
     onward s old new kept more on (subst (λ (k : Kept). IsAfter s (turns k) old) (sym none) is)
 

@@ -7,7 +7,8 @@ use Rattle.script_steps.specs.declared.links.ClientLink.{ClientLink}
 use Rattle.script_steps.specs.Events.{client_link}
 
 -- a link that is put at a client's place is the client's
-pub client-set : (links : List ClientLink) (i : ℕ) (link : ClientLink) (c : Client) → length links ≡ 3 → i ≡ client_index c
+pub client-set : (links : List ClientLink) (i : ℕ) (link : ClientLink) (c : Client) → length links ≡ 3
+    → i ≡ client_index c
     → link.number ≡ client_link (slice_set links i link) c
 client-set (a ∷ b ∷ d ∷ []) i link First count place = rw place refl
 client-set (a ∷ b ∷ d ∷ []) i link Second count place = rw place refl

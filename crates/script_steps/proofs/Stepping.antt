@@ -9,17 +9,22 @@ use Rattle.script_steps.specs.Settings.{fixed}
 use Rattle.script_steps.specs.Steps.{ScriptGoesOn}
 use Rattle.script_steps.proofs.Going.{same-on, both-on, from-nothing}
 
-pub folds-append : {P A : Type 0} (R : P → A → P → Type 0) (p : P) (xs : List A) (q : P) (ys : List A) (r : P) → FoldsTo R p xs q → FoldsTo R q ys r → FoldsTo R p (xs ++ ys) r
+pub folds-append : {P A : Type 0} (R : P → A → P → Type 0) (p : P) (xs : List A) (q : P) (ys : List A) (r : P)
+    → FoldsTo R p xs q → FoldsTo R q ys r → FoldsTo R p (xs ++ ys) r
 folds-append R p [] q ys r first second = subst (λ x. FoldsTo R x ys r) (sym first) second
 folds-append R p (x ∷ xs) q ys r (j, step, first) second = (j, step, folds-append R j xs q ys r first second)
 
 -- lines that step a runner leave the core after what is kept of them
-pub on-by-steps : (start : RunSoFar) (lines : List Line) (end : RunSoFar) → FoldsTo IsStep start lines end → ScriptGoesOn start.runner.core start.kept end.runner.core end.kept
+pub on-by-steps : (start : RunSoFar) (lines : List Line) (end : RunSoFar) → FoldsTo IsStep start lines end
+    → ScriptGoesOn start.runner.core start.kept end.runner.core end.kept
 on-by-steps start [] end is =
-    subst (λ (later : RunSoFar). ScriptGoesOn start.runner.core start.kept later.runner.core later.kept) is (same-on start.runner.core start.kept)
+    subst (λ (later : RunSoFar). ScriptGoesOn start.runner.core start.kept later.runner.core later.kept) is
+    (same-on start.runner.core start.kept)
 on-by-steps start (line ∷ lines) end (between, step, others) =
-    both-on start.runner.core between.runner.core end.runner.core start.kept between.kept end.kept step.on (on-by-steps between lines end others)
+    both-on start.runner.core between.runner.core end.runner.core start.kept between.kept end.kept step.on
+    (on-by-steps between lines end others)
 
 -- with the sessions up, the core is after what was stepped for them
 pub after-opening : (stands : RunSoFar) → IsWarm stands → IsAfter fixed (turns stands.kept) stands.runner.core
-after-opening stands (cold, is, steps) = from-nothing fixed cold.core stands.runner.core nothing_kept stands.kept refl (on-by-steps (record { runner = cold; kept = nothing_kept }) opening_lines stands steps) is.0
+after-opening stands (cold, is, steps) = from-nothing fixed cold.core stands.runner.core nothing_kept stands.kept refl
+    (on-by-steps (record { runner = cold; kept = nothing_kept }) opening_lines stands steps) is.0

@@ -76,15 +76,19 @@ message-small gate client m e k low high =
     let behind = if is_plain_reset m then moved else counted in
     let unnamed = if n == e then e + 1 else e in
     pick (n == 0) e (if not (is_named_to gate client m) then unnamed else behind) k (λ _. low)
-    (λ _. pick (not (is_named_to gate client m)) unnamed behind k (λ _. pick (n == e) (e + 1) e k (one-more m e k high) (λ _. low))
-    (λ _. pick (is_plain_reset m) moved counted k (λ _. pick (is_from e (short_number 36 m)) new e k (λ _. to) (λ _. low))
-    (λ _. pick (not (n == e)) e filled k (λ _. low) (λ h. pick (is_gap_fill m) new (e + 1) k (λ _. to) (λ _. one-more m e k high (not-not (n == e) h))))))
+    (λ _. pick (not (is_named_to gate client m)) unnamed behind k
+    (λ _. pick (n == e) (e + 1) e k (one-more m e k high) (λ _. low))
+    (λ _. pick (is_plain_reset m) moved counted k
+    (λ _. pick (is_from e (short_number 36 m)) new e k (λ _. to) (λ _. low))
+    (λ _. pick (not (n == e)) e filled k (λ _. low)
+    (λ h. pick (is_gap_fill m) new (e + 1) k (λ _. to) (λ _. one-more m e k high (not-not (n == e) h))))))
 
 logon-small : (m : Message) (e k : ℕ) → e ≤ k → 10 ^ 18 ≤ k → by_logon m e ≤ k
 logon-small m e k low high =
     let one : 1 ≤ k = omega arith in
     let from = if table.resets m then 1 else e in
-    pick (message_number m == from) (from + 1) from k (one-more m from k high) (λ _. pick (table.resets m) 1 e k (λ _. one) (λ _. low))
+    pick (message_number m == from) (from + 1) from k (one-more m from k high)
+    (λ _. pick (table.resets m) 1 e k (λ _. one) (λ _. low))
 
 -- what stands as acts begin
 abbrev begun : Option Logon → ℕ → ℕ
@@ -105,16 +109,19 @@ acts-expected : (acts : List Act) (g : Given) → (fold perform g acts).state.ex
 acts-expected [] g = refl
 acts-expected (a ∷ acts) g = acts-expected acts (perform g a) ∙ ap (moves acts) (act-expected g a)
 
-begun-expected : (s : State) (logon : Option Logon) (resends : Option Range) → (sent_again (logon_opened s logon) resends).state.expected ≡ begun logon s.expected
+begun-expected : (s : State) (logon : Option Logon) (resends : Option Range)
+    → (sent_again (logon_opened s logon) resends).state.expected ≡ begun logon s.expected
 begun-expected s None None = refl
 begun-expected s None (Some r) = refl
 begun-expected s (Some l) None = refl
 begun-expected s (Some l) (Some r) = refl
 
 answered-expected : (s : State) (a : Answer) → (answered s a).state.expected ≡ moves a.acts (begun a.logon s.expected)
-answered-expected s a = acts-expected a.acts (sent_again (logon_opened s a.logon) a.resends) ∙ ap (moves a.acts) (begun-expected s a.logon a.resends)
+answered-expected s a = acts-expected a.acts (sent_again (logon_opened s a.logon) a.resends)
+    ∙ ap (moves a.acts) (begun-expected s a.logon a.resends)
 
-by-logon-small : (m : Message) (e k : ℕ) (logon : Option Logon) (acts : List Act) → e ≤ k → 10 ^ 18 ≤ k → ByLogon m e logon acts → moves acts (begun logon e) ≤ k
+by-logon-small : (m : Message) (e k : ℕ) (logon : Option Logon) (acts : List Act) → e ≤ k → 10 ^ 18 ≤ k
+    → ByLogon m e logon acts → moves acts (begun logon e) ≤ k
 by-logon-small m e k None acts low high h = subst (λ (n : ℕ). n ≤ k) (sym h) low
 by-logon-small m e k (Some l) acts low high h = subst (λ (n : ℕ). n ≤ k) (sym h) (logon-small m e k low high)
 
@@ -155,11 +162,13 @@ acts-given : (acts : List Act) (g : Given) → length (fold perform g acts).stat
 acts-given [] g = omega arith
 acts-given (a ∷ acts) g = acts-given acts (perform g a) ∙ ap (λ (n : ℕ). n + used acts) (act-given g a) ∙ omega arith
 
-logon-given : (c : Bool) (slots : List Slot) (slot : Slot) → length ((if c then [] else slots) ++ slot ∷ []) ≤ length slots + 1
+logon-given : (c : Bool) (slots : List Slot) (slot : Slot)
+    → length ((if c then [] else slots) ++ slot ∷ []) ≤ length slots + 1
 logon-given true slots slot = omega arith
 logon-given false slots slot = omega (arith, one-slot slots slot)
 
-begun-given : (s : State) (logon : Option Logon) (resends : Option Range) → length (sent_again (logon_opened s logon) resends).state.given ≤ length s.given + counts logon
+begun-given : (s : State) (logon : Option Logon) (resends : Option Range)
+    → length (sent_again (logon_opened s logon) resends).state.given ≤ length s.given + counts logon
 begun-given s None None = omega arith
 begun-given s None (Some r) = omega arith
 begun-given s (Some l) None = logon-given l.resets s.given None
@@ -168,7 +177,8 @@ begun-given s (Some l) (Some r) = logon-given l.resets s.given None
 abbrev Few : ℕ → Answer → Type 0
 Few most a = counts a.logon + used a.acts ≤ most
 
-answered-given : (s : State) (a : Answer) (most : ℕ) → Few most a → length (answered s a).state.given ≤ length s.given + most
+answered-given : (s : State) (a : Answer) (most : ℕ) → Few most a
+    → length (answered s a).state.given ≤ length s.given + most
 answered-given s a most few =
     let all = acts-given a.acts (sent_again (logon_opened s a.logon) a.resends) in
     let first = begun-given s a.logon a.resends in
@@ -203,8 +213,38 @@ refused-few m (Some r) = one
 
 expected-few : (last : ℕ) (m : Message) → Few 1 (answer_by (expected_rows last m))
 unfolding Firsts
-expected-few last m = first-holds (Few 1) (expected_rows last m)
-    (λ _. fault-few m (first_fault m), λ _. (λ _. none, λ _. (λ _. one, λ _. (λ _. one, λ _. (λ _. resend-few last m, λ _. (λ _. none, λ _. (λ _. one, λ _. (λ _. one, λ _. (λ _. one, λ _. (λ _. refused-few m (application_refusal m), λ _. (λ _. one, λ _. (λ _. one, λ _. none))))))))))))
+expected-few last m = first-holds (Few 1) (expected_rows last m) (
+  λ _. fault-few m (first_fault m),
+  λ _. (
+    λ _. none,
+    λ _. (
+      λ _. one,
+      λ _. (
+        λ _. one,
+        λ _. (
+          λ _. resend-few last m,
+          λ _. (
+            λ _. none,
+            λ _. (
+              λ _. one,
+              λ _. (
+                λ _. one,
+                λ _. (
+                  λ _. one,
+                  λ _. (
+                    λ _. refused-few m (application_refusal m),
+                    λ _.
+                        (λ _. one, λ _. (λ _. one, λ _. none)),
+                  ),
+                ),
+              ),
+            ),
+          ),
+        ),
+      ),
+    ),
+  ),
+)
 
 names-few : (c : Bool) (m : Message) (tag : ℕ) → 0 + used ((if c then Grow ∷ [] else []) ++ reject_act m tag 9 ∷ log_out (codes "CompID problem")) ≤ 2
 names-few true m tag = two
@@ -246,7 +286,17 @@ logged-on-few s m n e = first-holds (Few 2) (logged_on_rows s m n e) (
             λ _. one-of-two,
             λ _. (
               λ _. one-of-two,
-              λ _. (λ _. gap-few s n (resend_answer (length s.given) m) (resend-few (length s.given) m), λ _. (λ _. ask-of-two s n, λ _. (λ _. taken-few (answer_by (expected_rows (length s.given) m)) (expected-few (length s.given) m), λ _. none))),
+              λ _. (
+                λ _. gap-few s n (resend_answer (length s.given) m) (resend-few (length s.given) m),
+                λ _. (
+                  λ _. ask-of-two s n,
+                  λ _. (
+                    λ _. taken-few (answer_by (expected_rows (length s.given) m))
+                        (expected-few (length s.given) m),
+                    λ _. none,
+                  ),
+                ),
+              ),
             ),
           ),
         ),
@@ -257,7 +307,8 @@ logged-on-few s m n e = first-holds (Few 2) (logged_on_rows s m n e) (
 
 logon-few : (s : State) (m : Message) (n e : ℕ) → Few 2 (answer_by (logon_rows s m n e))
 unfolding Firsts
-logon-few s m n e = first-holds (Few 2) (logon_rows s m n e) (λ _. none, λ _. (λ _. none, λ _. (λ _. one-of-two, λ _. (λ _. one-of-two, λ _. (λ _. two, λ _. none)))))
+logon-few s m n e = first-holds (Few 2) (logon_rows s m n e)
+    (λ _. none, λ _. (λ _. none, λ _. (λ _. one-of-two, λ _. (λ _. one-of-two, λ _. (λ _. two, λ _. none)))))
 
 waiting-few : (since now : ℕ) → Few 1 (answer_by (waiting_rows since now))
 unfolding Firsts
@@ -265,7 +316,8 @@ waiting-few since now = first-holds (Few 1) (waiting_rows since now) (λ _. none
 
 silence-few : (l : Logged) (now : ℕ) → Few 1 (answer_by (silence_rows l now))
 unfolding Firsts
-silence-few l now = first-holds (Few 1) (silence_rows l now) (λ _. none, λ _. (λ _. one, λ _. (λ _. one, λ _. (λ _. one, λ _. none))))
+silence-few l now = first-holds (Few 1) (silence_rows l now)
+    (λ _. none, λ _. (λ _. one, λ _. (λ _. one, λ _. (λ _. one, λ _. none))))
 
 tick-few : (s : State) (p : Phase) → Few 1 (answer_by (tick_rows s p))
 tick-few s Down = none
@@ -277,32 +329,42 @@ tick-few s (LoggedOn l) = silence-few l s.latest
 most-of : (e : ℕ) → (e ≤ max e (10 ^ 18)) × (10 ^ 18 ≤ max e (10 ^ 18))
 most-of e = (omega arith, omega arith)
 
-pub logged-on-little : (s : State) (at : ℕ) (m : Message) → MovesLittle 2 s (by_rows (heard (at_moment at s)) (logged_on_rows s m (message_number m) s.expected)).state
+pub logged-on-little : (s : State) (at : ℕ) (m : Message)
+    → MovesLittle 2 s (by_rows (heard (at_moment at s)) (logged_on_rows s m (message_number m) s.expected)).state
 logged-on-little s at m =
     let a = answer_by (logged_on_rows s m (message_number m) s.expected) in
     let k = logged-on-moves s m s.expected in
     let most = most-of s.expected in
     record {
-      expected = subst (λ (n : ℕ). n ≤ max s.expected (10 ^ 18)) (sym (answered-expected (heard (at_moment at s)) a ∙ ap (λ (l : Option Logon). moves a.acts (begun l s.expected)) k.0 ∙ k.1)) (message-small s.gate s.client m s.expected (max s.expected (10 ^ 18)) most.0 most.1);
+      expected = subst (λ (n : ℕ). n ≤ max s.expected (10 ^ 18))
+          (sym (answered-expected (heard (at_moment at s)) a
+          ∙ ap (λ (l : Option Logon). moves a.acts (begun l s.expected)) k.0 ∙ k.1))
+          (message-small s.gate s.client m s.expected (max s.expected (10 ^ 18)) most.0 most.1);
       given = answered-given (heard (at_moment at s)) a 2 (logged-on-few s m (message_number m) s.expected);
     }
 
-pub logon-little : (s : State) (at : ℕ) (m : Message) → MovesLittle 2 s (by_rows (heard (at_moment at s)) (logon_rows s m (message_number m) (if table.resets m then 1 else s.expected))).state
+pub logon-little : (s : State) (at : ℕ) (m : Message)
+    → MovesLittle 2 s (by_rows (heard (at_moment at s))
+    (logon_rows s m (message_number m) (if table.resets m then 1 else s.expected))).state
 logon-little s at m =
     let a = answer_by (logon_rows s m (message_number m) (if table.resets m then 1 else s.expected)) in
     let most = most-of s.expected in
     record {
-      expected = subst (λ (n : ℕ). n ≤ max s.expected (10 ^ 18)) (sym (answered-expected (heard (at_moment at s)) a)) (by-logon-small m s.expected (max s.expected (10 ^ 18)) a.logon a.acts most.0 most.1 (logon-moves s m));
-      given = answered-given (heard (at_moment at s)) a 2 (logon-few s m (message_number m) (if table.resets m then 1 else s.expected));
+      expected = subst (λ (n : ℕ). n ≤ max s.expected (10 ^ 18)) (sym (answered-expected (heard (at_moment at s)) a))
+          (by-logon-small m s.expected (max s.expected (10 ^ 18)) a.logon a.acts most.0 most.1 (logon-moves s m));
+      given = answered-given (heard (at_moment at s)) a 2
+          (logon-few s m (message_number m) (if table.resets m then 1 else s.expected));
     }
 
-same-little : (most : ℕ) (s new : State) → new.expected ≡ s.expected → length new.given ≤ length s.given + most → MovesLittle most s new
+same-little : (most : ℕ) (s new : State) → new.expected ≡ s.expected → length new.given ≤ length s.given + most
+    → MovesLittle most s new
 same-little most s new same few = record {
   expected = subst (λ (n : ℕ). n ≤ max s.expected (10 ^ 18)) (sym same) (most-of s.expected).0;
   given = few;
 }
 
-message-little : (s : State) (at : ℕ) (m : Message) (p : Phase) → MovesLittle 2 s (by_rows (heard (at_moment at s)) (message_rows s m p)).state
+message-little : (s : State) (at : ℕ) (m : Message) (p : Phase)
+    → MovesLittle 2 s (by_rows (heard (at_moment at s)) (message_rows s m p)).state
 message-little s at m Down = same-little 2 s (heard (at_moment at s)) refl (omega arith)
 message-little s at m (AwaitingLogon since) = logon-little s at m
 message-little s at m (LoggedOn l) = logged-on-little s at m
@@ -312,11 +374,13 @@ tick-little s at =
     let st = at_moment at s in
     let a = answer_by (tick_rows st s.phase) in
     same-little 1 s (answered st a).state
-    (answered-expected st a ∙ ap (λ (l : Option Logon). moves a.acts (begun l s.expected)) (tick-quiet st s.phase).1 ∙ tick-still st s.phase s.expected)
+    (answered-expected st a ∙ ap (λ (l : Option Logon). moves a.acts (begun l s.expected)) (tick-quiet st s.phase).1
+    ∙ tick-still st s.phase s.expected)
     (answered-given st a 1 (tick-few st s.phase))
 
 pub step-little : (s : State) (at : ℕ) (call : Call) → MovesLittle (most_taken call) s (step s at call).state
 step-little s at (OnLink up) = same-little 0 s (step s at (OnLink up)).state refl (omega arith)
 step-little s at (OnMessage m) = message-little s at m s.phase
 step-little s at OnTick = tick-little s at
-step-little s at (Issue kind body) = same-little 1 s (step s at (Issue kind body)).state refl (omega (arith, one-slot s.given (Some (record { kind = kind; body = body; at = max s.latest at }))))
+step-little s at (Issue kind body) = same-little 1 s (step s at (Issue kind body)).state refl
+    (omega (arith, one-slot s.given (Some (record { kind = kind; body = body; at = max s.latest at }))))

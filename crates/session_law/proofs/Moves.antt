@@ -72,8 +72,20 @@ Stays a = (a.logon ≡ None) × ((e : ℕ) → moves a.acts e ≡ e)
 
 resend-stays : (s : State) (m : Message) → Stays (resend_answer (length s.given) m)
 unfolding Firsts
-resend-stays s m = first-holds Stays (resend_rows (length s.given) m)
-    (λ _. (refl, λ e. refl), λ _. (λ _. (refl, λ e. refl), λ _. (λ _. (refl, λ e. refl), λ _. (λ _. (refl, λ e. refl), λ _. (λ _. (refl, λ e. refl), λ _. (λ _. (refl, λ e. refl), λ _. (refl, λ e. refl)))))))
+resend-stays s m = first-holds Stays (resend_rows (length s.given) m) (
+  λ _. (refl, λ e. refl),
+  λ _. (
+    λ _. (refl, λ e. refl),
+    λ _. (
+      λ _. (refl, λ e. refl),
+      λ _. (
+        λ _. (refl, λ e. refl),
+        λ _.
+            (λ _. (refl, λ e. refl), λ _. (λ _. (refl, λ e. refl), λ _. (refl, λ e. refl))),
+      ),
+    ),
+  ),
+)
 
 asks-stay : (c : Bool) (n e : ℕ) → moves (if c then [] else AskAgain n ∷ []) e ≡ e
 asks-stay true n e = refl
@@ -85,7 +97,8 @@ names-move false m tag e = refl
 
 -- ---- the expected number
 
-fault-moves : (o : Option SessionRefusal) (m : Message) (b : Bool) (x e : ℕ) → is_some o ≡ true → moves (fault_acts m o) (e + 1) ≡ (if is_none o && b then x else e + 1)
+fault-moves : (o : Option SessionRefusal) (m : Message) (b : Bool) (x e : ℕ) → is_some o ≡ true
+    → moves (fault_acts m o) (e + 1) ≡ (if is_none o && b then x else e + 1)
 fault-moves None m b x e h = absurd (cc)
 fault-moves (Some r) m b x e h = refl
 
@@ -98,7 +111,8 @@ none-of None h = refl
 none-of (Some r) h = absurd (cc)
 
 abbrev Takes : Message → ℕ → Answer → Type 0
-Takes m e a = (a.logon ≡ None) × (moves a.acts (e + 1) ≡ (if is_gap_fill m then unwrap_or (short_number 36 m) 0 else e + 1))
+Takes m e a = (a.logon ≡ None) × (moves a.acts (e + 1)
+    ≡ (if is_gap_fill m then unwrap_or (short_number 36 m) 0 else e + 1))
 
 -- a message of another type
 no-gap : (m : Message) (x e : ℕ) → is_type (codes "4") m ≡ false → e ≡ (if is_gap_fill m then x else e)
@@ -152,7 +166,8 @@ expected-moves s m e =
 abbrev pub Moves : State → Message → ℕ → Answer → Type 0
 Moves s m e a = (a.logon ≡ None) × (moves a.acts e ≡ by_message s.gate s.client m e)
 
-pub logged-on-moves : (s : State) (m : Message) (e : ℕ) → Moves s m e (answer_by (logged_on_rows s m (message_number m) e))
+pub logged-on-moves : (s : State) (m : Message) (e : ℕ)
+    → Moves s m e (answer_by (logged_on_rows s m (message_number m) e))
 unfolding Firsts
 logged-on-moves s m e =
     let n = message_number m in
@@ -173,12 +188,23 @@ logged-on-moves s m e =
                 λ n6. (
                   λ h. let ne = above n e (and_parts (nat_lt e n) (is_type (codes "5") m) h).0 in (refl, rw (n1, n2, n4, ne) refl),
                   λ _. (
-                    λ h. let ne = above n e (and_parts (nat_lt e n) (is_type (codes "2") m) h).0 in
-                        ((resend-stays s m).0, moves-append (resend_answer (length s.given) m).acts (ask_again s n) e ∙ asks-stay (Rattle.std.specs.Prelude.nat_le s.expected (asked_number s.phase)) n (moves (resend_answer (length s.given) m).acts e) ∙ (resend-stays s m).1 e ∙ rw (n1, n2, n4, ne) refl),
+                    λ h. let ne = above n e (and_parts (nat_lt e n) (is_type (codes "2") m) h).0 in (
+                      (resend-stays s m).0,
+                      moves-append (resend_answer (length s.given) m).acts (ask_again s n) e
+                          ∙ asks-stay (Rattle.std.specs.Prelude.nat_le s.expected (asked_number s.phase)) n
+                          (moves (resend_answer (length s.given) m).acts e) ∙ (resend-stays s m).1 e
+                          ∙ rw (n1, n2, n4, ne) refl,
+                    ),
                     λ _. (
-                      λ h. let ne = above n e h in (refl, asks-stay (Rattle.std.specs.Prelude.nat_le s.expected (asked_number s.phase)) n e ∙ rw (n1, n2, n4, ne) refl),
+                      λ h. let ne = above n e h in (
+                        refl,
+                        asks-stay
+                            (Rattle.std.specs.Prelude.nat_le s.expected (asked_number s.phase)) n e
+                            ∙ rw (n1, n2, n4, ne) refl,
+                      ),
                       λ n9. (
-                        λ _. let eq = same n e n6 n9 in let t = expected-moves s m e in (t.0, t.1 ∙ rw (n1, n2, n4, eq) refl),
+                        λ _. let eq = same n e n6 n9 in let t = expected-moves s m e in
+                            (t.0, t.1 ∙ rw (n1, n2, n4, eq) refl),
                         λ no. absurd (cc),
                       ),
                     ),

@@ -9,14 +9,16 @@ use Rattle.settings_file.specs.Rules.{member_keys}
 use Rattle.settings_file.proofs.Lists.{any-seen}
 
 -- the first that passes, or the first of the others
-one : (b : Bool) (key : String Global) (found : Option (String Global)) (seen : Option (List ℕ)) → option_map string_bytes found ≡ seen
+one : (b : Bool) (key : String Global) (found : Option (String Global)) (seen : Option (List ℕ))
+    → option_map string_bytes found ≡ seen
     → option_map string_bytes (cond b (Some key) found) ≡ cond b (Some (string_bytes key)) seen
 one true key found seen h = refl
 one false key found seen h = h
 
 -- the first key that isn't one of these, in the map and in what the table is seen as
 pub other-seen : {K : Type 0} (now : K → List ℕ) (keys : List K) (es : List Entry)
-    → option_map string_bytes (find (λ (key : String Global). not (list_any (λ k. bytes_eq (string_bytes key) (now k)) keys)) (map (λ (e : Entry). e.0) es))
+    → option_map string_bytes (find (λ (key : String Global). not
+    (list_any (λ k. bytes_eq (string_bytes key) (now k)) keys)) (map (λ (e : Entry). e.0) es))
     ≡ find (λ key. not (list_any (bytes_eq key) (map now keys))) (member_keys (members_view es))
 other-seen now keys [] = refl
 other-seen now keys (e ∷ es) =

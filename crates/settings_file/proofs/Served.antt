@@ -32,16 +32,19 @@ neither (Some x) b h = absurd (true≢false (ap is_some h))
 abbrev Keeps : Rule → Data → Type 0
 Keeps r t = (text_in r.key t ≡ Some (text_at r.key t)) × (r.holds (text_at r.key t) ≡ true)
 
-lets_pass : (holds : List ℕ → Bool) (text : List ℕ) (b : Bool) → holds text ≡ b → is_some (cond b (Some text) None) ≡ true → holds text ≡ true
+lets_pass : (holds : List ℕ → Bool) (text : List ℕ) (b : Bool) → holds text ≡ b
+    → is_some (cond b (Some text) None) ≡ true → holds text ≡ true
 lets_pass holds text true is h = is
 lets_pass holds text false is h = absurd (false≢true h)
 
-of_text : (holds : List ℕ → Bool) (found : Option (List ℕ)) → is_some (option_and_then (where_it_holds holds) found) ≡ true
+of_text : (holds : List ℕ → Bool) (found : Option (List ℕ))
+    → is_some (option_and_then (where_it_holds holds) found) ≡ true
     → (found ≡ Some (unwrap_or found [])) × (holds (unwrap_or found []) ≡ true)
 of_text holds None h = absurd (false≢true h)
 of_text holds (Some text) h = (refl, lets_pass holds text (holds text) refl h)
 
-kept-or-broken : (b : Bool) (key : List ℕ) (others : Option (List ℕ)) → (if b then others else Some key) ≡ None → (b ≡ true) × (others ≡ None)
+kept-or-broken : (b : Bool) (key : List ℕ) (others : Option (List ℕ)) → (if b then others else Some key) ≡ None
+    → (b ≡ true) × (others ≡ None)
 kept-or-broken true key others h = (refl, h)
 kept-or-broken false key others h = absurd (true≢false (ap is_some h))
 
@@ -62,7 +65,8 @@ port-served earlier t h =
     let secret = kept password [] t who.1 in
     and_from _ _ who.0.1 secret.0.1
 
-ports-served : (earlier ts : List Data) → first_refused refused_port earlier ts ≡ None → list_all is_port (map login_at ts) ≡ true
+ports-served : (earlier ts : List Data) → first_refused refused_port earlier ts ≡ None
+    → list_all is_port (map login_at ts) ≡ true
 ports-served earlier [] h = refl
 ports-served earlier (t ∷ ts) h =
     let p = neither (refused_port earlier t) _ h in
@@ -70,7 +74,8 @@ ports-served earlier (t ∷ ts) h =
 
 -- ---- a client
 
-one-or-behind : (b : Bool) (n k : ℕ) → (b ≡ false → (1 ≤ n) × (n ≤ k)) → (1 ≤ (if b then 1 else n + 1)) × ((if b then 1 else n + 1) ≤ suc k)
+one-or-behind : (b : Bool) (n k : ℕ) → (b ≡ false → (1 ≤ n) × (n ≤ k))
+    → (1 ≤ (if b then 1 else n + 1)) × ((if b then 1 else n + 1) ≤ suc k)
 one-or-behind true n k h = (omega arith, omega arith)
 one-or-behind false n k h = let p = h refl in (omega (arith, p.0), omega (arith, p.1))
 
@@ -97,7 +102,8 @@ padded-length text h =
     ∙ omega (arith, h)
 
 padded-printable : (text : List ℕ) → list_all is_printable text ≡ true → list_all is_printable (padded_firm text) ≡ true
-padded-printable text h = list_all-append is_printable text (replicate (4 - length text) 32) ∙ rw (h, spaces (4 - length text)) refl
+padded-printable text h = list_all-append is_printable text (replicate (4 - length text) 32)
+    ∙ rw (h, spaces (4 - length text)) refl
 
 is-letter : (letters text : List ℕ) → is_letter_of letters text ≡ true → is_byte_of letters (first_byte text) ≡ true
 is-letter letters [] h = absurd (false≢true h)
@@ -113,7 +119,8 @@ behind_comp ports earlier =
     ∷ letter (codes "customer") (codes "RN ")
     ∷ []
 
-client-served : (s : Settings) (ports earlier : List Data) (t : Data) → length s.ports ≡ length ports → refused_client ports earlier t ≡ None
+client-served : (s : Settings) (ports earlier : List Data) (t : Data) → length s.ports ≡ length ports
+    → refused_client ports earlier t ≡ None
     → is_client s (client_at ports t) ≡ true
 client-served s ports earlier t beside h =
     let rules = (neither (first_broken (client_rules ports earlier) t) _ h).0 in
@@ -135,7 +142,8 @@ client-served s ports earlier t beside h =
     (and_from _ _ (padded-printable text length_printable.1)
     (and_from _ _ (is-letter (codes "APR") (text_at (codes "capacity") t) capacity.0.1) (is-letter (codes "RN ") (text_at (codes "customer") t) customer.0.1)))))
 
-clients-served : (s : Settings) (ports earlier ts : List Data) → length s.ports ≡ length ports → first_refused (refused_client ports) earlier ts ≡ None
+clients-served : (s : Settings) (ports earlier ts : List Data) → length s.ports ≡ length ports
+    → first_refused (refused_client ports) earlier ts ≡ None
     → list_all (is_client s) (map (client_at ports) ts) ≡ true
 clients-served s ports earlier [] beside h = refl
 clients-served s ports earlier (t ∷ ts) beside h =
@@ -172,7 +180,8 @@ own ports earlier t h =
     (comp.0, not-true _ (and_parts (is_name (name_at t)) _ comp.1).1)
 
 -- who comes later has another name
-later : (ports earlier ts : List Data) (name : List ℕ) → HaveName name earlier → first_refused (refused_client ports) earlier ts ≡ None
+later : (ports earlier ts : List Data) (name : List ℕ) → HaveName name earlier
+    → first_refused (refused_client ports) earlier ts ≡ None
     → list_any (bytes_eq name) (names ports ts) ≡ false
 later ports earlier [] name have h = refl
 later ports earlier (t ∷ ts) name have h =
@@ -180,17 +189,20 @@ later ports earlier (t ∷ ts) name have h =
     rw (have (name_at t) (own ports earlier t p.0).1)
     (later ports (earlier ++ t ∷ []) ts name (have-more name earlier t have) p.1)
 
-each-own : (ports earlier ts : List Data) → first_refused (refused_client ports) earlier ts ≡ None → is_each_own (names ports ts) ≡ true
+each-own : (ports earlier ts : List Data) → first_refused (refused_client ports) earlier ts ≡ None
+    → is_each_own (names ports ts) ≡ true
 each-own ports earlier [] h = refl
 each-own ports earlier (t ∷ ts) h =
     let p = neither (refused_client ports earlier t) _ h in
     and_from _ _
-    (not_from_false _ (later ports (earlier ++ t ∷ []) ts (name_at t) (have-own earlier t (own ports earlier t p.0).0) p.1))
+    (not_from_false _ (later ports (earlier ++ t ∷ []) ts (name_at t)
+    (have-own earlier t (own ports earlier t p.0).0) p.1))
     (each-own ports (earlier ++ t ∷ []) ts p.1)
 
 -- ---- the whole
 
-counted : (b : Bool) (key : List ℕ) (found : Option (List ℕ)) → (if b then found else Some key) ≡ None → (b ≡ true) × (found ≡ None)
+counted : (b : Bool) (key : List ℕ) (found : Option (List ℕ)) → (if b then found else Some key) ≡ None
+    → (b ≡ true) × (found ≡ None)
 counted = λ b key found h. kept-or-broken b key found h
 
 pub what_is_not_refused_is_served : WhatIsNotRefusedIsServed
@@ -205,12 +217,17 @@ what_is_not_refused_is_served file h =
     let p = counted (are_tables 16 ports) (codes "port") (first_refused refused_port [] ports) b.0 in
     let q = counted (are_tables 64 clients) (codes "client") (first_refused (refused_client ports) [] clients) c.0 in
     and_from _ _ (and_parts (is_name (text_at (codes "comp") file)) _ comp.1).0
-    (and_from _ _ (ap (is_between 1 16) (length-map ports login_at) ∙ (and_parts (is_between 1 16 (length ports)) _ p.0).0)
+    (and_from _ _ (ap (is_between 1 16) (length-map ports login_at)
+    ∙ (and_parts (is_between 1 16 (length ports)) _ p.0).0)
     (and_from _ _ (ports-served [] ports p.1)
-    (and_from _ _ (ap (is_between 1 64) (length-map clients (client_at ports)) ∙ (and_parts (is_between 1 64 (length clients)) _ q.0).0)
-    (and_from _ _ (clients-served s ports [] clients (length-map ports login_at) q.1) (each-own ports [] clients q.1)))))
+    (and_from _ _ (ap (is_between 1 64) (length-map clients (client_at ports))
+    ∙ (and_parts (is_between 1 64 (length clients)) _ q.0).0)
+    (and_from _ _ (clients-served s ports [] clients (length-map ports login_at) q.1)
+    (each-own ports [] clients q.1)))))
 
 -- the same settings, from what they were read as
-pub served-as : (comp comp2 : List ℕ) (ports ports2 : List port.LoginTerms) (clients clients2 : List ClientSettings) → comp ≡ comp2 → ports ≡ ports2
-    → clients ≡ clients2 → is_served (settings_of comp2 ports2 clients2) ≡ true → is_served (settings_of comp ports clients) ≡ true
+pub served-as : (comp comp2 : List ℕ) (ports ports2 : List port.LoginTerms) (clients clients2 : List ClientSettings)
+    → comp ≡ comp2 → ports ≡ ports2
+    → clients ≡ clients2 → is_served (settings_of comp2 ports2 clients2) ≡ true
+    → is_served (settings_of comp ports clients) ≡ true
 served-as comp comp2 ports ports2 clients clients2 e f g h = rw (e, f, g) h

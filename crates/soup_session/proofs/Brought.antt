@@ -23,13 +23,15 @@ module _ (s : PortStanding) (p : List ℕ) where
   brings-arrives : Brings p (table.arrives s p)
   brings-arrives = by_test (s.number == wanted s)
     where
-      by_test : (b : Bool) → (if b then Some p else None) ≡ (if is_some (if b then Some p else None) then Some p else None)
+      by_test : (b : Bool) → (if b then Some p else None)
+          ≡ (if is_some (if b then Some p else None) then Some p else None)
       by_test true = refl
       by_test false = refl
 
   brings-logs_in : (session : List ℕ) (number : Option ℕ) → Brings p (table.logs_in s session number)
   brings-logs_in session None = refl
-  brings-logs_in session (Some k) = brings-if p (k == 0) _ _ refl (brings-if p (table.is_other session s.session) _ _ refl (brings-if p (nat_lt (wanted s) k) _ _ refl refl))
+  brings-logs_in session (Some k) = brings-if p (k == 0) _ _ refl
+      (brings-if p (table.is_other session s.session) _ _ refl (brings-if p (nat_lt (wanted s) k) _ _ refl refl))
 
   brings-said : (said : Said) → Brings p (table.on_said s p said)
   brings-said (Accepted session number) = brings-if p (is_logging_in s.state) _ _ (brings-logs_in session number) refl
@@ -39,20 +41,25 @@ module _ (s : PortStanding) (p : List ℕ) where
   brings-said End = refl
   brings-said Strange = refl
 
-pub brings : (terms : LoginTerms) (before : List PortCall) (packet : Packet) (at : ℕ) → Brings packet.payload (answer terms before (OnPacket packet at))
+pub brings : (terms : LoginTerms) (before : List PortCall) (packet : Packet) (at : ℕ)
+    → Brings packet.payload (answer terms before (OnPacket packet at))
 brings terms before packet at =
     brings-if packet.payload (is_open (standing terms before).state) _ _
     (brings-said (table.heard_now (table.passed at (standing terms before))) packet.payload (said_of packet))
     refl
 
-same-payload : (p payload : List ℕ) (o : Option (List ℕ)) → o ≡ (if is_some o then Some p else None) → o ≡ Some payload → payload ≡ p
+same-payload : (p payload : List ℕ) (o : Option (List ℕ)) → o ≡ (if is_some o then Some p else None) → o ≡ Some payload
+    → payload ≡ p
 same-payload p payload None is some = absurd (cc)
 same-payload p payload (Some q) is some = cc
 
-pub delivers-own : (terms : LoginTerms) (before : List PortCall) (packet : Packet) (at : ℕ) → DeliversOwn terms before packet at
-delivers-own terms before packet at = λ payload is. same-payload packet.payload payload (answer terms before (OnPacket packet at)).payload (brings terms before packet at) is
+pub delivers-own : (terms : LoginTerms) (before : List PortCall) (packet : Packet) (at : ℕ)
+    → DeliversOwn terms before packet at
+delivers-own terms before packet at = λ payload is. same-payload packet.payload payload
+    (answer terms before (OnPacket packet at)).payload (brings terms before packet at) is
 
 -- what a turn of a packet delivers
-pub delivered-is : (terms : LoginTerms) (before : List PortCall) (packet : Packet) (at : ℕ) (t : PortTurn) → IsAnswer (answer terms before (OnPacket packet at)) t
+pub delivered-is : (terms : LoginTerms) (before : List PortCall) (packet : Packet) (at : ℕ) (t : PortTurn)
+    → IsAnswer (answer terms before (OnPacket packet at)) t
     → (answer terms before (OnPacket packet at)).payload ≡ (if t.is_delivered then Some packet.payload else None)
 delivered-is terms before packet at t is = rw is.payload (brings terms before packet at)

@@ -26,13 +26,15 @@ port-depth : (n : ℕ) (address : List ℕ) (row : PortRow) → depth (port_data
 unfolding port_data
 port-depth n address row = rw (link-depth row.link) refl
 
-clients-depth : (n : ℕ) (names : List (List ℕ)) (rows : List ClientRow) → items_depth (items_of (client_items n names rows)) ≤ 1
+clients-depth : (n : ℕ) (names : List (List ℕ)) (rows : List ClientRow)
+    → items_depth (items_of (client_items n names rows)) ≤ 1
 clients-depth n names [] = omega arith
 clients-depth n names (row ∷ rows) =
     let rest = clients-depth (next_number n) (drop 1 names) rows in
     rw (client-depth n (first_name names) row) (omega (arith, rest))
 
-ports-depth : (n : ℕ) (names : List (List ℕ)) (rows : List PortRow) → items_depth (items_of (port_items n names rows)) ≤ 1
+ports-depth : (n : ℕ) (names : List (List ℕ)) (rows : List PortRow)
+    → items_depth (items_of (port_items n names rows)) ≤ 1
 ports-depth n names [] = omega arith
 ports-depth n names (row ∷ rows) =
     let rest = ports-depth (next_number n) (drop 1 names) rows in

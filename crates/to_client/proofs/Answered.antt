@@ -35,7 +35,8 @@ append-nothing (q ∷ qs) = ap (λ (ps : List Entry). q ∷ ps) (append-nothing 
 -- ---- the lists of them
 
 -- cancels among requests behind replaces are those behind them
-any-cancel : (rs later : List Entry) → AreReplaces rs → list_any law.is_cancel (rs ++ later) ≡ list_any law.is_cancel later
+any-cancel : (rs later : List Entry) → AreReplaces rs
+    → list_any law.is_cancel (rs ++ later) ≡ list_any law.is_cancel later
 any-cancel [] later are = refl
 any-cancel (q ∷ rs) later are = rw are.0 (any-cancel rs later are.1)
 
@@ -47,21 +48,25 @@ none-of_replace : (c : Option Entry) → IsCancel c → of_replaces (option_to_l
 none-of_replace None is = refl
 none-of_replace (Some q) is = rw is refl
 
-any-of_replace : (rs : List Entry) (c : Option Entry) → AreReplaces rs → IsCancel c → of_replaces (rs ++ option_to_list c) ≡ of_replaces rs
+any-of_replace : (rs : List Entry) (c : Option Entry) → AreReplaces rs → IsCancel c
+    → of_replaces (rs ++ option_to_list c) ≡ of_replaces rs
 any-of_replace [] c are is = none-of_replace c is
 any-of_replace (q ∷ rs) c are is = rw are.0 refl
 
-filter-replaces : (rs : List Entry) (c : Option Entry) → AreReplaces rs → IsCancel c → filter (λ (q : Entry). is_replace q.message) (rs ++ option_to_list c) ≡ rs
+filter-replaces : (rs : List Entry) (c : Option Entry) → AreReplaces rs → IsCancel c
+    → filter (λ (q : Entry). is_replace q.message) (rs ++ option_to_list c) ≡ rs
 filter-replaces [] None are is = refl
 filter-replaces [] (Some q) are is = rw is refl
 filter-replaces (q ∷ rs) c are is = rw are.0 (ap (λ (qs : List Entry). q ∷ qs) (filter-replaces rs c are.1 is))
 
-pub filter-cancel : (rs : List Entry) (c : Option Entry) → AreReplaces rs → IsCancel c → filter law.is_cancel (rs ++ option_to_list c) ≡ option_to_list c
+pub filter-cancel : (rs : List Entry) (c : Option Entry) → AreReplaces rs → IsCancel c
+    → filter law.is_cancel (rs ++ option_to_list c) ≡ option_to_list c
 filter-cancel [] None are is = refl
 filter-cancel [] (Some q) are is = rw is refl
 filter-cancel (q ∷ rs) c are is = rw are.0 (filter-cancel rs c are.1 is)
 
-find-cancel : (rs : List Entry) (c : Option Entry) → AreReplaces rs → IsCancel c → find law.is_cancel (rs ++ option_to_list c) ≡ c
+find-cancel : (rs : List Entry) (c : Option Entry) → AreReplaces rs → IsCancel c
+    → find law.is_cancel (rs ++ option_to_list c) ≡ c
 find-cancel [] None are is = refl
 find-cancel [] (Some q) are is = rw is refl
 find-cancel (q ∷ rs) c are is = rw are.0 (find-cancel rs c are.1 is)
@@ -69,7 +74,8 @@ find-cancel (q ∷ rs) c are is = rw are.0 (find-cancel rs c are.1 is)
 -- ---- an order shown with other requests pending
 
 -- it is shown so, where its two marks are those of these requests
-shown-with : (x : Shown) (s : law.Shown) (qs ps : List Entry) (cancel replace : Bool) → ShowsAs x (record s { pending = qs }) → list_any law.is_cancel ps ≡ cancel → of_replaces ps ≡ replace
+shown-with : (x : Shown) (s : law.Shown) (qs ps : List Entry) (cancel replace : Bool)
+    → ShowsAs x (record s { pending = qs }) → list_any law.is_cancel ps ≡ cancel → of_replaces ps ≡ replace
     → ShowsAs (record x { has_pending_cancel = cancel; has_pending_replace = replace }) (record s { pending = ps })
 shown-with x s qs ps cancel replace shows is_cancel is_replace_so = record {
   order = shows.order;
@@ -88,10 +94,12 @@ shown-with x s qs ps cancel replace shows is_cancel is_replace_so = record {
 }
 
 -- with these replaces before what is pending
-pub before-shows : (x : Shown) (s : law.Shown) (qs later : List Entry) (some : Bool) → AreReplaces qs → of_replaces qs ≡ some → ShowsAs (without_replaces x) (record s { pending = later })
+pub before-shows : (x : Shown) (s : law.Shown) (qs later : List Entry) (some : Bool) → AreReplaces qs
+    → of_replaces qs ≡ some → ShowsAs (without_replaces x) (record s { pending = later })
     → ShowsAs (record x { has_pending_replace = some }) (record s { pending = qs ++ later })
 before-shows x s qs later some are is_some shows =
-    shown-with (without_replaces x) s later (qs ++ later) x.has_pending_cancel some shows (any-cancel qs later are ∙ shows.cancel) (any-replaces qs are ∙ is_some)
+    shown-with (without_replaces x) s later (qs ++ later) x.has_pending_cancel some shows
+    (any-cancel qs later are ∙ shows.cancel) (any-replaces qs are ∙ is_some)
   where
     any-replaces : (qs : List Entry) → AreReplaces qs → of_replaces (qs ++ later) ≡ of_replaces qs
     any-replaces [] are = shows.replace
@@ -108,20 +116,24 @@ module _ (x : Shown) (pending : Pending) (replaces : List Entry) (cancel : Optio
   -- without replaces
   pub rest-shows : ShowsAs (without_replaces x) (record s { pending = option_to_list cancel })
   rest-shows = shown-with x s s.pending (option_to_list cancel) x.has_pending_cancel false shows
-      (sym (any-cancel replaces (option_to_list cancel) is.are_replaces) ∙ ap (list_any law.is_cancel) (sym is.in_order) ∙ shows.cancel) (none-of_replace cancel is.is_cancel_set)
+      (sym (any-cancel replaces (option_to_list cancel) is.are_replaces) ∙ ap (list_any law.is_cancel) (sym is.in_order)
+      ∙ shows.cancel) (none-of_replace cancel is.is_cancel_set)
 
   -- without any
-  pub last-shows : ShowsAs (record x { has_pending_replace = false; has_pending_cancel = false }) (record s { pending = [] })
+  pub last-shows : ShowsAs (record x { has_pending_replace = false; has_pending_cancel = false })
+      (record s { pending = [] })
   last-shows = shown-with x s s.pending [] false false shows refl refl
 
   kept : filter (λ (q : Entry). is_replace q.message) s.pending ≡ replaces
-  kept = ap (filter (λ (q : Entry). is_replace q.message)) is.in_order ∙ filter-replaces replaces cancel is.are_replaces is.is_cancel_set
+  kept = ap (filter (λ (q : Entry). is_replace q.message)) is.in_order
+      ∙ filter-replaces replaces cancel is.are_replaces is.is_cancel_set
 
   -- without the cancel
   pub without_cancel-shows : ShowsAs (record x { has_pending_cancel = false }) (law.without_cancel s)
   without_cancel-shows = shown-with x s s.pending (law.without_cancel s).pending false x.has_pending_replace shows
       (ap (list_any law.is_cancel) kept ∙ no-cancel replaces is.are_replaces)
-      (ap of_replaces kept ∙ sym (any-of_replace replaces cancel is.are_replaces is.is_cancel_set) ∙ ap of_replaces (sym is.in_order) ∙ shows.replace)
+      (ap of_replaces kept ∙ sym (any-of_replace replaces cancel is.are_replaces is.is_cancel_set)
+      ∙ ap of_replaces (sym is.in_order) ∙ shows.replace)
 
   -- ---- what is told
 
@@ -171,21 +183,28 @@ module _ (x : Shown) (pending : Pending) (replaces : List Entry) (cancel : Optio
 
 -- ---- bodies
 
-pub pushed : (bs : List AppBody) (b : AppBody) (cs : List AppBody) → cs ≡ bs ++ b ∷ [] → map body_fields cs ≡ map body_fields bs ++ body_fields b ∷ []
+pub pushed : (bs : List AppBody) (b : AppBody) (cs : List AppBody) → cs ≡ bs ++ b ∷ []
+    → map body_fields cs ≡ map body_fields bs ++ body_fields b ∷ []
 pushed bs b cs e = ap (map body_fields) e ∙ map-append body_fields bs (b ∷ [])
 
 -- behind two groups of bodies
-pub behind : (old first second third : List Message) (xs ys : List Message) → second ≡ old ++ xs → third ≡ second ++ ys → third ≡ old ++ (xs ++ ys)
+pub behind : (old first second third : List Message) (xs ys : List Message) → second ≡ old ++ xs → third ≡ second ++ ys
+    → third ≡ old ++ (xs ++ ys)
 behind old first second third xs ys e f = f ∙ ap (λ ms. ms ++ ys) e ∙ append_assoc old xs ys
 
 -- a reject behind them
-pub pushed-reject : (request : Option Request) (r : Request) → request ≡ Some r → (q : Option Entry) (s : law.Shown) (x : Shown) (reject : CancelReject) (code : ℕ) (text why : List ℕ) → text ≡ why → (bs cs : List AppBody)
+pub pushed-reject : (request : Option Request) (r : Request) → request ≡ Some r
+    → (q : Option Entry) (s : law.Shown) (x : Shown) (reject : CancelReject) (code : ℕ) (text why : List ℕ) → text ≡ why
+    → (bs cs : List AppBody)
     → IsAnyRequest request q → ShowsAs x s
-    → ((m : Message) (shown : Option law.Shown) → IsRequest r m → ShowsAny (Some x) shown → cancel_reject_fields reject ∷ [] ≡ law.refused_request m shown code text)
+    → ((m : Message) (shown : Option law.Shown) → IsRequest r m → ShowsAny (Some x) shown
+    → cancel_reject_fields reject ∷ [] ≡ law.refused_request m shown code text)
     → cs ≡ bs ++ bodies.CancelReject reject ∷ [] → map body_fields cs ≡ map body_fields bs ++ rejects_of s q code why
-pushed-reject request r is q s x reject code text why same bs cs asks shows told e = by_entry q (subst (λ (any : Option Request). IsAnyRequest any q) is asks)
+pushed-reject request r is q s x reject code text why same bs cs asks shows told e =
+    by_entry q (subst (λ (any : Option Request). IsAnyRequest any q) is asks)
   where
-    by_entry : (q : Option Entry) → IsAnyRequest (Some r) q → map body_fields cs ≡ map body_fields bs ++ rejects_of s q code why
+    by_entry : (q : Option Entry) → IsAnyRequest (Some r) q
+        → map body_fields cs ≡ map body_fields bs ++ rejects_of s q code why
     by_entry None asks = absurd asks
     by_entry (Some entry) asks =
         pushed bs (bodies.CancelReject reject) cs e
@@ -193,7 +212,8 @@ pushed-reject request r is q s x reject code text why same bs cs asks shows told
         ∙ ap (λ (t : List ℕ). map body_fields bs ++ rejects_of s (Some entry) code t) same
 
 -- the report of a cancel, and what is too late
-pub cancelled-is : (x : Shown) (pending : Pending) (replaces : List Entry) (cancel : Option Entry) (s : law.Shown) → ShowsAs x s → IsPending pending replaces cancel s → (number : ℕ) (why : Option (List ℕ)) (m : Message)
+pub cancelled-is : (x : Shown) (pending : Pending) (replaces : List Entry) (cancel : Option Entry) (s : law.Shown)
+    → ShowsAs x s → IsPending pending replaces cancel s → (number : ℕ) (why : Option (List ℕ)) (m : Message)
     → m ≡ law.report number (record (law.plain (codes "4")) { request = cancel; why = why }) (law.without_cancel s)
     → m ∷ each_rejected s replaces [] 0 (codes "too late") (codes "too late") ≡ law.cancelled number why s
 cancelled-is x pending replaces cancel s shows is number why m told =

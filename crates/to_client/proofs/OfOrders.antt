@@ -28,17 +28,21 @@ module _ (client order_id : ℕ) where
   are-replaces [] = tt
   are-replaces (r ∷ rs) = (refl, are-replaces rs)
 
-  pub any-cancel-seen : (rs : List Replacing) (c : Option Cancelling) → list_any law.is_cancel (pending_in rs c) ≡ is_some c
+  pub any-cancel-seen : (rs : List Replacing) (c : Option Cancelling)
+      → list_any law.is_cancel (pending_in rs c) ≡ is_some c
   any-cancel-seen [] None = refl
   any-cancel-seen [] (Some c) = refl
   any-cancel-seen (r ∷ rs) c = any-cancel-seen rs c
 
-  pub any-replace-seen : (rs : List Replacing) (c : Option Cancelling) → list_any (λ (q : Entry). is_replace q.message) (pending_in rs c) ≡ not (length rs == 0)
+  pub any-replace-seen : (rs : List Replacing) (c : Option Cancelling)
+      → list_any (λ (q : Entry). is_replace q.message) (pending_in rs c) ≡ not (length rs == 0)
   any-replace-seen [] None = refl
   any-replace-seen [] (Some c) = refl
-  any-replace-seen (r ∷ rs) c = let more : (length (r ∷ rs) == 0) ≡ false = ne_eqb (length (r ∷ rs)) 0 (λ e. omega (arith, e)) in rw more refl
+  any-replace-seen (r ∷ rs) c = let more : (length (r ∷ rs) == 0) ≡ false =
+      ne_eqb (length (r ∷ rs)) 0 (λ e. omega (arith, e)) in rw more refl
 
-  pub is-cancel : (c : Option Cancelling) → IfSome (cancel_in (option_map (cancel_seen client order_id) c)) (λ (q : Entry). is_replace q.message ≡ false)
+  pub is-cancel : (c : Option Cancelling) → IfSome (cancel_in (option_map (cancel_seen client order_id) c))
+      (λ (q : Entry). is_replace q.message ≡ false)
   is-cancel None = tt
   is-cancel (Some c) = refl
 

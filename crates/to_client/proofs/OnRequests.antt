@@ -24,10 +24,13 @@ use Rattle.to_client.proofs.Statuses.{status-shown}
 
 -- a report that tells each occasion of these details
 abbrev pub Tells : ℕ → Details → Request → Shown → Report → Type 0
-Tells number d q x r = (o : law.Occasion) (s : law.Shown) → IsOccasion d (Some q) o → ShowsAs x s → report_fields r ≡ law.report number o s
+Tells number d q x r = (o : law.Occasion) (s : law.Shown) → IsOccasion d (Some q) o → ShowsAs x s
+    → report_fields r ≡ law.report number o s
 
-pub pending-told : (kind : CxlRejResponseTo) (number : ℕ) (d : Details) (q : Request) (x : Shown) (r : Report) (e : Entry) (s : law.Shown)
-    → d ≡ plain_details (pending_type kind) → is_replace e.message ≡ is_of_replace kind → Tells number d q x r → IsRequest q e.message → ShowsAs x (law.with_request e s)
+pub pending-told : (kind : CxlRejResponseTo) (number : ℕ) (d : Details) (q : Request) (x : Shown) (r : Report)
+    (e : Entry) (s : law.Shown)
+    → d ≡ plain_details (pending_type kind) → is_replace e.message ≡ is_of_replace kind → Tells number d q x r
+    → IsRequest q e.message → ShowsAs x (law.with_request e s)
     → report_fields r ∷ [] ≡ law.accepted_request number e (Some s)
 pending-told responses.Cancel number d q x r e s plain is_cancel tells is shows =
     let occasion : IsOccasion d (Some q) (law.on_request (codes "6") e) = rw plain (record { request = is; exec_type = refl; broken = refl; code = refl; restated = refl; shares = refl; at = refl; why = refl }) in
@@ -66,7 +69,8 @@ written f = law.in_order (
     ∷ law.told_field 58 f.why
     ∷ [])
 
-same_written : (f g : Rejected) → f.order ≡ g.order → f.id ≡ g.id → f.orig ≡ g.orig → f.status ≡ g.status → f.answers ≡ g.answers → f.code ≡ g.code → f.why ≡ g.why → written f ≡ written g
+same_written : (f g : Rejected) → f.order ≡ g.order → f.id ≡ g.id → f.orig ≡ g.orig → f.status ≡ g.status
+    → f.answers ≡ g.answers → f.code ≡ g.code → f.why ≡ g.why → written f ≡ written g
 same_written f g order id orig status answers code why = rw (order, id, orig, status, answers, code, why) refl
 
 -- CxlRejResponseTo (434)
@@ -106,8 +110,10 @@ fields_in r = record {
   why = r.text;
 }
 
-reject-written : (q : Request) (order : Option Shown) (code : ℕ) (why : List ℕ) (r : CancelReject) (m : Message) (id status : List ℕ) → IsRejectOf q order code why r → IsRequest q m
-    → order_id_text (id_number order) ≡ id → status_letter (status_any order) ∷ [] ≡ status → cancel_reject_fields r ≡ written (law_fields m id status code why)
+reject-written : (q : Request) (order : Option Shown) (code : ℕ) (why : List ℕ) (r : CancelReject) (m : Message)
+    (id status : List ℕ) → IsRejectOf q order code why r → IsRequest q m
+    → order_id_text (id_number order) ≡ id → status_letter (status_any order) ∷ [] ≡ status
+    → cancel_reject_fields r ≡ written (law_fields m id status code why)
 reject-written q order code why r m id status is asks id_is status_is =
     same_written (fields_in r) (law_fields m id status code why)
     (ap order_id_text is.order_id ∙ id_is)
@@ -118,9 +124,12 @@ reject-written q order code why r m id status is asks id_is status_is =
     (ap decimal is.code)
     is.words
 
-pub reject-told : (q : Request) (order : Option Shown) (code : ℕ) (why : List ℕ) (r : CancelReject) (m : Message) (s : Option law.Shown) → IsRejectOf q order code why r → IsRequest q m → ShowsAny order s
+pub reject-told : (q : Request) (order : Option Shown) (code : ℕ) (why : List ℕ) (r : CancelReject) (m : Message)
+    (s : Option law.Shown) → IsRejectOf q order code why r → IsRequest q m → ShowsAny order s
     → cancel_reject_fields r ∷ [] ≡ law.refused_request m s code why
 reject-told q None code why r m None is asks shows = ap (λ (f : Message). f ∷ []) (reject-written q None code why r m (codes "NONE") (codes "8") is asks refl refl)
 reject-told q None code why r m (Some s) is asks shows = absurd shows
 reject-told q (Some x) code why r m None is asks shows = absurd shows
-reject-told q (Some x) code why r m (Some s) is asks shows = ap (λ (f : Message). f ∷ []) (reject-written q (Some x) code why r m s.order (law.status_of s) is asks shows.order (status-shown x s shows))
+reject-told q (Some x) code why r m (Some s) is asks shows =
+    ap (λ (f : Message). f ∷ []) (reject-written q (Some x) code why r m s.order (law.status_of s) is asks shows.order
+    (status-shown x s shows))

@@ -22,9 +22,11 @@ use Rattle.to_client.specs.Shows.{IsAnyRequest, IsOccasion, ShowsAs, id_told, or
 use Rattle.to_client.proofs.Statuses.{status-shown}
 
 -- slots one after another are their fields one after another
-appended-in_order : (fs : List Field) (slots : List FieldSlot) → appended fs slots ≡ fs ++ law.in_order (map slot_fields slots)
+appended-in_order : (fs : List Field) (slots : List FieldSlot)
+    → appended fs slots ≡ fs ++ law.in_order (map slot_fields slots)
 appended-in_order fs [] = sym (append-nil fs)
-appended-in_order fs (s ∷ slots) = appended-in_order (fs ++ slot_fields s) slots ∙ append_assoc fs (slot_fields s) (law.in_order (map slot_fields slots))
+appended-in_order fs (s ∷ slots) = appended-in_order (fs ++ slot_fields s) slots
+    ∙ append_assoc fs (slot_fields s) (law.in_order (map slot_fields slots))
 
 same_part : (tag : ℕ) (value : Option (List ℕ)) → value_fields tag value ≡ law.optional tag value
 same_part tag None = refl
@@ -103,7 +105,18 @@ fields_in r price = record {
 report-written : (r : Report) (price : List ℕ) → r.price ≡ Some price → report_fields r ≡ written (fields_in r price)
 report-written r price priced =
     appended-in_order [] (report_slots r)
-    ∙ rw (priced, same_part 41 r.orig_cl_ord_id, same_part 19 (number_text r.exec_ref_id), same_part 103 (number_text r.ord_rej_reason), same_part 378 (number_text r.exec_restatement_reason), same_part 32 (number_text r.last_qty), same_part 31 r.last_px, same_part 58 r.text) refl
+    ∙ rw (
+      priced,
+      same_part 41 r.orig_cl_ord_id,
+      same_part 19 (number_text r.exec_ref_id),
+      same_part 103
+          (number_text r.ord_rej_reason),
+      same_part 378 (number_text r.exec_restatement_reason),
+      same_part 32
+          (number_text r.last_qty),
+      same_part 31 r.last_px,
+      same_part 58 r.text,
+    ) refl
 
 -- two that say the same
 record Same (f g : Fields) : Type 0 where
@@ -128,7 +141,27 @@ record Same (f g : Fields) : Type 0 where
   why : f.why ≡ g.why
 
 same_written : (f g : Fields) → Same f g → written f ≡ written g
-same_written f g s = rw (s.order, s.id, s.orig, s.number, s.broken, s.kind, s.status, s.code, s.restated, s.symbol, s.side, s.total, s.price, s.shares, s.at, s.leaves, s.executed, s.average, s.why) refl
+same_written f g s = rw (
+  s.order,
+  s.id,
+  s.orig,
+  s.number,
+  s.broken,
+  s.kind,
+  s.status,
+  s.code,
+  s.restated,
+  s.symbol,
+  s.side,
+  s.total,
+  s.price,
+  s.shares,
+  s.at,
+  s.leaves,
+  s.executed,
+  s.average,
+  s.why,
+) refl
 
 -- as the law has it
 abbrev fields_of : ℕ → law.Occasion → law.Shown → Fields
@@ -154,26 +187,32 @@ fields_of number o s = record {
   why = o.why;
 }
 
-ids : (q : Option Request) (e : Option Entry) (x : Shown) (id : List ℕ) → IsAnyRequest q e → x.cl_ord_id.now ≡ id → id_told q x ≡ unwrap_or (option_map (λ (q : Entry). text 11 q.message) e) id
+ids : (q : Option Request) (e : Option Entry) (x : Shown) (id : List ℕ) → IsAnyRequest q e → x.cl_ord_id.now ≡ id
+    → id_told q x ≡ unwrap_or (option_map (λ (q : Entry). text 11 q.message) e) id
 ids None None x id is own = own
 ids None (Some e) x id is own = absurd is
 ids (Some q) None x id is own = absurd is
 ids (Some q) (Some e) x id is own = is.id
 
-origs : (q : Option Request) (e : Option Entry) → IsAnyRequest q e → orig_told q ≡ option_map (λ (q : Entry). text 41 q.message) e
+origs : (q : Option Request) (e : Option Entry) → IsAnyRequest q e
+    → orig_told q ≡ option_map (λ (q : Entry). text 41 q.message) e
 origs None None is = refl
 origs None (Some e) is = absurd is
 origs (Some q) None is = absurd is
 origs (Some q) (Some e) is = ap (λ (t : List ℕ). Some t) is.orig
 
-average-shown : (x : Shown) (s : law.Shown) → ShowsAs x s → average_of_text x.progress.now ≡ price_text (average_of s.value s.executed)
-average-shown x s shows = ap (λ v. price_text (average_of v x.progress.now.executed)) shows.value ∙ ap (λ e. price_text (average_of s.value e)) shows.executed
+average-shown : (x : Shown) (s : law.Shown) → ShowsAs x s
+    → average_of_text x.progress.now ≡ price_text (average_of s.value s.executed)
+average-shown x s shows = ap (λ v. price_text (average_of v x.progress.now.executed)) shows.value
+    ∙ ap (λ e. price_text (average_of s.value e)) shows.executed
 
 -- the report on an order as it is shown, on this occasion
-pub report-told : (number : ℕ) (d : Details) (q : Option Request) (x : Shown) (o : law.Occasion) (s : law.Shown) → IsOccasion d q o → ShowsAs x s → report_fields (report_with number d q x) ≡ law.report number o s
+pub report-told : (number : ℕ) (d : Details) (q : Option Request) (x : Shown) (o : law.Occasion) (s : law.Shown)
+    → IsOccasion d q o → ShowsAs x s → report_fields (report_with number d q x) ≡ law.report number o s
 report-told number d q x o s is shows =
     report-written (report_with number d q x) (price_text x.progress.now.price) refl
-    ∙ same_written (fields_in (report_with number d q x) (price_text x.progress.now.price)) (fields_of number o s) (record {
+    ∙ same_written (fields_in (report_with number d q x) (price_text x.progress.now.price)) (fields_of number o s)
+    (record {
       order = shows.order;
       id = ids q o.request x s.id is.request shows.id;
       orig = origs q o.request is.request;
@@ -204,7 +243,9 @@ unfolding digits
 ninety-nine = refl
 
 -- the occasions without a request
-plain : (d : Details) (o : law.Occasion) → exec_letter d.exec_type ∷ [] ≡ o.exec_type → o.request ≡ None → number_text d.exec_ref_id ≡ o.broken → number_text d.ord_rej_reason ≡ o.code → number_text d.exec_restatement_reason ≡ o.restated
+plain : (d : Details) (o : law.Occasion) → exec_letter d.exec_type ∷ [] ≡ o.exec_type → o.request ≡ None
+    → number_text d.exec_ref_id ≡ o.broken → number_text d.ord_rej_reason ≡ o.code
+    → number_text d.exec_restatement_reason ≡ o.restated
     → d.last_qty ≡ o.shares → d.last_px ≡ o.at → char_text d.reason ≡ o.why → IsOccasion d None o
 plain d o kind request broken code restated shares at why = record {
   request = rw request tt;
@@ -221,8 +262,10 @@ pub occasion-seen : (occasion : Occasion) → IsOccasion (details_of occasion) N
 occasion-seen occasions.PendingNew = plain _ _ refl refl refl refl refl refl refl refl
 occasion-seen occasions.New = plain _ _ refl refl refl refl refl refl refl refl
 occasion-seen (occasions.Trade shares price) = plain _ _ refl refl refl refl refl refl refl refl
-occasion-seen (occasions.Restated reason) = plain _ _ refl refl refl refl (ap (λ (t : List ℕ). Some t) five) refl refl refl
+occasion-seen (occasions.Restated reason) =
+    plain _ _ refl refl refl refl (ap (λ (t : List ℕ). Some t) five) refl refl refl
 occasion-seen (occasions.Canceled None) = plain _ _ refl refl refl refl refl refl refl refl
 occasion-seen (occasions.Canceled (Some reason)) = plain _ _ refl refl refl refl refl refl refl refl
 occasion-seen (occasions.TradeCancel exec_id reason) = plain _ _ refl refl refl refl refl refl refl refl
-occasion-seen (occasions.Rejected reason) = plain _ _ refl refl refl (ap (λ (t : List ℕ). Some t) ninety-nine) refl refl refl refl
+occasion-seen (occasions.Rejected reason) =
+    plain _ _ refl refl refl (ap (λ (t : List ℕ). Some t) ninety-nine) refl refl refl refl

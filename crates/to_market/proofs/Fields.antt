@@ -19,14 +19,17 @@ use Rattle.to_market.specs.FieldRows.{is_no_minimum, refusal_row}
 use Rattle.to_market.proofs.Rows.{price_rows, price_rows_of}
 
 -- the tests on a value that may be missing
-other_test : (wanted : List (List ℕ)) (v : Option (List ℕ)) → (is_some v && not (list_any (λ wanted_text. bytes_eq (unwrap_or v []) wanted_text) wanted)) ≡ is_none_of wanted v
+other_test : (wanted : List (List ℕ)) (v : Option (List ℕ))
+    → (is_some v && not (list_any (λ wanted_text. bytes_eq (unwrap_or v []) wanted_text) wanted)) ≡ is_none_of wanted v
 other_test wanted None = refl
 other_test wanted (Some value) = refl
 
-pub other-same : (tag : ℕ) (wanted : List (List ℕ)) (m : Message) (v : Option (List ℕ)) → first_value tag m ≡ v → (has tag m && not (is_one_of tag wanted m)) ≡ is_none_of wanted v
+pub other-same : (tag : ℕ) (wanted : List (List ℕ)) (m : Message) (v : Option (List ℕ)) → first_value tag m ≡ v
+    → (has tag m && not (is_one_of tag wanted m)) ≡ is_none_of wanted v
 other-same tag wanted m v e = rw e (other_test wanted v)
 
-pub no_minimum : (total : ℕ) (v : Option (List ℕ)) (m : Message) → first_value 110 m ≡ v → total_of m ≡ total → (has 110 m && not (is_minimum m)) ≡ is_no_minimum total v
+pub no_minimum : (total : ℕ) (v : Option (List ℕ)) (m : Message) → first_value 110 m ≡ v → total_of m ≡ total
+    → (has 110 m && not (is_minimum m)) ≡ is_no_minimum total v
 no_minimum total None m e t = rw e refl
 no_minimum total (Some value) m e t = rw (e, t) refl
 
@@ -56,18 +59,24 @@ pub text_there : (tag : ℕ) (m : Message) (value : List ℕ) → first_value ta
 text_there tag m value e = ap (λ (v : Option (List ℕ)). unwrap_or v []) e
 
 pub total_of-fields : (m : NewOrder) → total_of (new_order_fields m) ≡ result_unwrap_or (quantity 1 m.order_qty) 0
-total_of-fields m = ap (λ (t : List ℕ). result_unwrap_or (quantity 1 t) 0) (text_there 38 (new_order_fields m) m.order_qty (quantity-value m))
+total_of-fields m = ap (λ (t : List ℕ). result_unwrap_or (quantity 1 t) 0)
+    (text_there 38 (new_order_fields m) m.order_qty (quantity-value m))
 
 -- the rows on a message are those on its fields
 pub field_rows-fields : (m : NewOrder) → field_rows (new_order_fields m) ≡ rows_of m
 field_rows-fields m =
     let fs : Message = new_order_fields m in
-    let side : not (is_one_of 54 sides fs) ≡ not (is_among sides (m.side ∷ [])) = ap (λ (t : List ℕ). not (is_among sides t)) (text_there 54 fs _ (side-value m)) in
-    let symbol : not (is_symbol (text 55 fs)) ≡ not (is_symbol m.symbol) = ap (λ (t : List ℕ). not (is_symbol t)) (text_there 55 fs _ (symbol-value m)) in
+    let side : not (is_one_of 54 sides fs) ≡ not (is_among sides (m.side ∷ [])) =
+    ap (λ (t : List ℕ). not (is_among sides t)) (text_there 54 fs _ (side-value m)) in
+    let symbol : not (is_symbol (text 55 fs)) ≡ not (is_symbol m.symbol) =
+    ap (λ (t : List ℕ). not (is_symbol t)) (text_there 55 fs _ (symbol-value m)) in
     let type : not (is 40 (codes "2") fs) ≡ not (bytes_eq (m.ord_type ∷ []) (codes "2")) = ap (λ (t : List ℕ). not (bytes_eq t (codes "2"))) (text_there 40 fs _ (type-value m)) in
-    let quantity_there : not (is_ok (quantity 1 (text 38 fs))) ≡ not (is_ok (quantity 1 m.order_qty)) = ap (λ (t : List ℕ). not (is_ok (quantity 1 t))) (text_there 38 fs _ (quantity-value m)) in
-    let missing : not (has 44 fs) ≡ not (is_some m.price) = ap (λ (v : Option (List ℕ)). not (is_some v)) (price-value m) in
-    let text_of_price : text 44 fs ≡ unwrap_or m.price [] = ap (λ (v : Option (List ℕ)). unwrap_or v []) (price-value m) in
+    let quantity_there : not (is_ok (quantity 1 (text 38 fs))) ≡ not (is_ok (quantity 1 m.order_qty)) =
+    ap (λ (t : List ℕ). not (is_ok (quantity 1 t))) (text_there 38 fs _ (quantity-value m)) in
+    let missing : not (has 44 fs) ≡ not (is_some m.price) =
+    ap (λ (v : Option (List ℕ)). not (is_some v)) (price-value m) in
+    let text_of_price : text 44 fs ≡ unwrap_or m.price [] = ap (λ (v : Option (List ℕ)). unwrap_or v []) (price-value m)
+    in
     as_table fs
     ∙ rw (side, symbol, type, other-same 59 life_times_of_new fs _ (life_time-value m), other-same 18 (codes "6" ∷ []) fs _ (instruction-value m), other-same 528 capacities fs _ (capacity-value m), quantity_there, no_minimum _ m.min_qty fs (minimum-value m) (total_of-fields m), missing, text_of_price) refl
 
@@ -94,30 +103,38 @@ display_test (Some value) = refl
 pub display_of-fields : (m : NewOrder) → display_of (new_order_fields m) ≡ display m.exec_inst
 display_of-fields m = ap (λ (v : Option (List ℕ)). if bytes_eq (unwrap_or v []) (codes "6") then 80 else 89) (instruction-value m) ∙ display_test m.exec_inst
 
-capacity_test : (own : ℕ) (c : Option ℕ) → (if is_some (char_text c) then slice_index (unwrap_or (char_text c) []) 0 else own) ≡ unwrap_or c own
+capacity_test : (own : ℕ) (c : Option ℕ) →
+    (if is_some (char_text c) then slice_index (unwrap_or (char_text c) []) 0 else own) ≡ unwrap_or c own
 capacity_test own None = refl
 capacity_test own (Some byte) = refl
 
-pub capacity_of-fields : (own : ℕ) (m : NewOrder) → capacity_of own (new_order_fields m) ≡ unwrap_or m.order_capacity own
-capacity_of-fields own m = ap (λ (v : Option (List ℕ)). if is_some v then slice_index (unwrap_or v []) 0 else own) (capacity-value m) ∙ capacity_test own m.order_capacity
+pub capacity_of-fields : (own : ℕ) (m : NewOrder)
+    → capacity_of own (new_order_fields m) ≡ unwrap_or m.order_capacity own
+capacity_of-fields own m = ap (λ (v : Option (List ℕ)). if is_some v then slice_index (unwrap_or v []) 0 else own)
+    (capacity-value m) ∙ capacity_test own m.order_capacity
 
-pub minimum_test : (v : Option (List ℕ)) → (if is_some v then result_unwrap_or (quantity 0 (unwrap_or v [])) 0 else 0) ≡ minimum v
+pub minimum_test : (v : Option (List ℕ)) → (if is_some v then result_unwrap_or (quantity 0 (unwrap_or v [])) 0 else 0)
+    ≡ minimum v
 minimum_test None = refl
 minimum_test (Some value) = refl
 
-pub least_of : (m : Message) (v : Option (List ℕ)) → first_value 110 m ≡ v → (if has 110 m then result_unwrap_or (quantity 0 (text 110 m)) 0 else 0) ≡ minimum v
-least_of m v e = ap (λ (w : Option (List ℕ)). if is_some w then result_unwrap_or (quantity 0 (unwrap_or w [])) 0 else 0) e ∙ minimum_test v
+pub least_of : (m : Message) (v : Option (List ℕ)) → first_value 110 m ≡ v
+    → (if has 110 m then result_unwrap_or (quantity 0 (text 110 m)) 0 else 0) ≡ minimum v
+least_of m v e = ap (λ (w : Option (List ℕ)). if is_some w then result_unwrap_or (quantity 0 (unwrap_or w [])) 0 else 0)
+    e ∙ minimum_test v
 
 said_test : (v : Option (List ℕ)) (total least : ℕ) → (if bytes_eq (unwrap_or v []) (codes "4") then total else least) ≡ minimum_said v total least
 said_test None total least = refl
 said_test (Some value) total least = refl
 
 -- the minimum quantity by the values of 59, of 110 and of the total
-pub minimum_of-values : (m : Message) (life least : Option (List ℕ)) → first_value 59 m ≡ life → first_value 110 m ≡ least → minimum_of m ≡ minimum_said life (total_of m) (minimum least)
+pub minimum_of-values : (m : Message) (life least : Option (List ℕ)) → first_value 59 m ≡ life
+    → first_value 110 m ≡ least → minimum_of m ≡ minimum_said life (total_of m) (minimum least)
 minimum_of-values m life least is_life is_least =
     rw (least_of m least is_least) (ap (λ (v : Option (List ℕ)). if bytes_eq (unwrap_or v []) (codes "4") then total_of m else minimum least) is_life ∙ said_test life (total_of m) (minimum least))
 
-pub minimum_of-fields : (m : NewOrder) → minimum_of (new_order_fields m) ≡ minimum_said (char_text m.time_in_force) (result_unwrap_or (quantity 1 m.order_qty) 0) (minimum m.min_qty)
+pub minimum_of-fields : (m : NewOrder) → minimum_of (new_order_fields m)
+    ≡ minimum_said (char_text m.time_in_force) (result_unwrap_or (quantity 1 m.order_qty) 0) (minimum m.min_qty)
 minimum_of-fields m =
     minimum_of-values (new_order_fields m) (char_text m.time_in_force) m.min_qty (life_time-value m) (minimum-value m)
     ∙ ap (λ (total : ℕ). minimum_said (char_text m.time_in_force) total (minimum m.min_qty)) (total_of-fields m)

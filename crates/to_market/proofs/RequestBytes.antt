@@ -24,11 +24,13 @@ with_false true = refl
 with_false false = refl
 
 -- bytes that begin with another type are no Enter Order, and no Replace Order
-no_enter_order : (bytes : List ℕ) → (slice_index bytes 0 == 79) ≡ false → is_message layouts.enter_order_layout bytes ≡ false
+no_enter_order : (bytes : List ℕ) → (slice_index bytes 0 == 79) ≡ false
+    → is_message layouts.enter_order_layout bytes ≡ false
 no_enter_order [] h = refl
 no_enter_order (b ∷ bytes) h = rw h (with_false (nat_le 1 (length (b ∷ bytes))))
 
-no_replace_order : (bytes : List ℕ) → (slice_index bytes 0 == 85) ≡ false → is_message layouts.replace_layout bytes ≡ false
+no_replace_order : (bytes : List ℕ) → (slice_index bytes 0 == 85) ≡ false
+    → is_message layouts.replace_layout bytes ≡ false
 no_replace_order [] h = refl
 no_replace_order (b ∷ bytes) h = rw h (with_false (nat_le 1 (length (b ∷ bytes))))
 
@@ -43,13 +45,17 @@ pub record Replaces (ask : ReplaceAsk) (live : List ℕ) (message : Replace) : T
   pub sweep : message.intermarket_sweep ≡ 78
   pub minimum : message.minimum_quantity ≡ ask.minimum_quantity
 
-ask_of_replaces : (ask : ReplaceAsk) (live : List ℕ) (message : Replace) (m : Message) (order : ℕ) (standing : Standing) (order_of : List ℕ → Option ℕ) (bytes : List ℕ)
-    → AsksToReplace ask m → Replaces ask live message → spelled_replace.SaysReplace message bytes → order_of live ≡ Some order
+ask_of_replaces : (ask : ReplaceAsk) (live : List ℕ) (message : Replace) (m : Message) (order : ℕ) (standing : Standing)
+    (order_of : List ℕ → Option ℕ) (bytes : List ℕ)
+    → AsksToReplace ask m → Replaces ask live message → spelled_replace.SaysReplace message bytes
+    → order_of live ≡ Some order
     → ask_of_bytes standing order_of bytes ≡ Some (Change order (limits_of m))
 ask_of_replaces ask live message m order standing order_of bytes asks has says leads =
-    let no_enter : is_message layouts.enter_order_layout bytes ≡ false = no_enter_order bytes (ap (λ (b : ℕ). b == 79) says.type) in
+    let no_enter : is_message layouts.enter_order_layout bytes ≡ false =
+    no_enter_order bytes (ap (λ (b : ℕ). b == 79) says.type) in
     let token : order_of (said.token bytes) ≡ Some order = ap order_of (says.token ∙ has.token) ∙ leads in
-    let life : life_time_of_seconds (said.replace_time_in_force bytes) ≡ Some (life_time_of m) = ap life_time_of_seconds (says.time_in_force ∙ has.time_in_force) ∙ asks.life_time in
+    let life : life_time_of_seconds (said.replace_time_in_force bytes) ≡ Some (life_time_of m) =
+    ap life_time_of_seconds (says.time_in_force ∙ has.time_in_force) ∙ asks.life_time in
     let shares : said.replace_shares bytes ≡ total_of m = says.shares ∙ has.shares ∙ asks.shares in
     let price : said.replace_price bytes ≡ limit_of m = says.price ∙ has.price ∙ asks.price in
     let minimum : said.replace_minimum bytes ≡ minimum_of m = says.minimum ∙ has.minimum ∙ asks.minimum in
@@ -69,22 +75,26 @@ asked_by_cancel order m kind =
     rw (no_g, is_f) refl
 
 -- its bytes say what a replace asks
-pub says_replace : (ask : ReplaceAsk) (live : List ℕ) (message : Replace) (m : Message) (order : List ℕ) (standing : Standing) (order_of : List ℕ → Option ℕ)
+pub says_replace : (ask : ReplaceAsk) (live : List ℕ) (message : Replace) (m : Message) (order : List ℕ)
+    (standing : Standing) (order_of : List ℕ → Option ℕ)
     → AsksToReplace ask m → Replaces ask live message → order_of live ≡ Some (digits_value 10 order)
     → Says standing order_of (replace_asked_with order live ask.token m) (replace_bytes message)
 says_replace ask live message m order standing order_of asks has leads =
     let says = SaysReplace-written message in
     record {
       tokens = (ap (λ (b : ℕ). b == 85) says.type, says.token ∙ has.token, says.replacement_token ∙ has.replacement);
-      ask = ask_of_replaces ask live message m (digits_value 10 order) standing order_of (replace_bytes message) asks has says leads ∙ sym (asked_by_replace (digits_value 10 order) m asks.kind);
+      ask = ask_of_replaces ask live message m (digits_value 10 order) standing order_of
+          (replace_bytes message) asks has says leads ∙ sym (asked_by_replace (digits_value 10 order) m asks.kind);
     }
 
 ask_of_cancels : (message : Cancel) (order : ℕ) (standing : Standing) (order_of : List ℕ → Option ℕ) (bytes : List ℕ)
     → message.shares ≡ 0 → spelled_cancel.SaysCancel message bytes → order_of message.token ≡ Some order
     → ask_of_bytes standing order_of bytes ≡ Some (Stop order)
 ask_of_cancels message order standing order_of bytes all says leads =
-    let no_enter : is_message layouts.enter_order_layout bytes ≡ false = no_enter_order bytes (ap (λ (b : ℕ). b == 79) says.type) in
-    let no_replace : is_message layouts.replace_layout bytes ≡ false = no_replace_order bytes (ap (λ (b : ℕ). b == 85) says.type) in
+    let no_enter : is_message layouts.enter_order_layout bytes ≡ false =
+    no_enter_order bytes (ap (λ (b : ℕ). b == 79) says.type) in
+    let no_replace : is_message layouts.replace_layout bytes ≡ false =
+    no_replace_order bytes (ap (λ (b : ℕ). b == 85) says.type) in
     let token : order_of (said.token bytes) ≡ Some order = ap order_of says.token ∙ leads in
     let shares : (said.cancel_shares bytes == 0) ≡ true = ap (λ (n : ℕ). n == 0) (says.shares ∙ all) in
     rw (no_enter, no_replace, says.is_one, shares, token) refl
@@ -97,5 +107,6 @@ says_cancel message m order standing order_of all kind leads =
     let says = SaysCancel-written message in
     record {
       tokens = (ap (λ (b : ℕ). b == 88) says.type, says.token);
-      ask = ask_of_cancels message (digits_value 10 order) standing order_of (cancel_bytes message) all says leads ∙ sym (asked_by_cancel (digits_value 10 order) m kind);
+      ask = ask_of_cancels message (digits_value 10 order) standing order_of (cancel_bytes message) all says leads
+          ∙ sym (asked_by_cancel (digits_value 10 order) m kind);
     }

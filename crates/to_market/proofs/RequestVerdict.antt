@@ -8,7 +8,8 @@ use Rattle.fix_types.specs.declared.replace_request.ReplaceRequest.{ReplaceReque
 use Rattle.fix_types.specs.ReplaceRequest.{replace_request_fields}
 use Rattle.fix_values.specs.Slots.{char_text}
 use Rattle.order_law.specs.Asks.{LifeTime, life_time_of_seconds}
-use Rattle.order_law.specs.Verdicts.{Accepted, Named, Port, Row, Verdict, first_row, has_to_wait, last_token, life_times, most_replaces, port_rows, rows_of_request}
+use Rattle.order_law.specs.Verdicts.{Accepted, Named, Port, Row, Verdict, first_row, has_to_wait, last_token}
+use Rattle.order_law.specs.Verdicts.{life_times, most_replaces, port_rows, rows_of_request}
 use Rattle.to_market.specs.declared.named_order.NamedOrder.{NamedOrder}
 use Rattle.to_market.specs.declared.refusal.Refusal.{Refusal}
 use Rattle.to_market.specs.declared.refusal.Refusal.TheVariants as refusals
@@ -18,21 +19,29 @@ use Rattle.to_market.specs.Names.{HasRead, ReachesTerms, changes_terms}
 use Rattle.to_market.specs.Refusals.{request_refused_by}
 use Rattle.to_market.specs.RequestAsks.{AsksToReplace}
 use Rattle.to_market.proofs.Rows.{first_row-append, follows, price-refused_request, price-taken, price_rows_of}
-use Rattle.to_market.proofs.ReplaceFields.{change_rows, change_table, display_of-replace, kind-replace, last_rows, life_time_of-replace, limit_of-replace, minimum_of-replace, replace_rows-fields, replace_table, row, total_of-replace}
+use Rattle.to_market.proofs.ReplaceFields.{change_rows, change_table, display_of-replace, kind-replace, last_rows}
+use Rattle.to_market.proofs.ReplaceFields.{life_time_of-replace, limit_of-replace, minimum_of-replace}
+use Rattle.to_market.proofs.ReplaceFields.{replace_rows-fields, replace_table, row, total_of-replace}
 
 -- behind rows that don't hold, the others decide
-behind : (used late waits : Bool) (ports changes : List Row) → used ≡ false → late ≡ false → first_row ports ≡ Accepted → waits ≡ false → first_row (replace_table used late ports waits changes) ≡ first_row changes
+behind : (used late waits : Bool) (ports changes : List Row) → used ≡ false → late ≡ false → first_row ports ≡ Accepted
+    → waits ≡ false → first_row (replace_table used late ports waits changes) ≡ first_row changes
 unfolding replace_table
 behind used late waits ports changes is_new is_open takes answered =
-    rw (is_new, is_open, answered) (first_row-append ports (row false refusals.AlreadyPending ∷ changes) ∙ rw takes refl)
+    rw (is_new, is_open, answered) (first_row-append ports (row false refusals.AlreadyPending ∷ changes)
+    ∙ rw takes refl)
 
-pub by_changes : (used : Bool) (n : Named) (o : NamedOrder) (port : Port) (given : ℕ) (m : ReplaceRequest) → ReachesTerms used n port → HasRead n o
-    → first_row (rows_of_request used (Some n) port given (replace_request_fields m)) ≡ first_row (change_rows m o given)
+pub by_changes : (used : Bool) (n : Named) (o : NamedOrder) (port : Port) (given : ℕ) (m : ReplaceRequest)
+    → ReachesTerms used n port → HasRead n o
+    → first_row (rows_of_request used (Some n) port given (replace_request_fields m))
+    ≡ first_row (change_rows m o given)
 by_changes used n o port given m reaches read =
     ap first_row (replace_rows-fields used n o port given m read)
-    ∙ behind used n.reading.is_closed (has_to_wait true n.chain) (port_rows port) (change_rows m o given) reaches.is_new reaches.is_open reaches.takes_orders reaches.may
+    ∙ behind used n.reading.is_closed (has_to_wait true n.chain) (port_rows port)
+    (change_rows m o given) reaches.is_new reaches.is_open reaches.takes_orders reaches.may
 
-pub other_terms : (o : NamedOrder) (given : ℕ) (m : ReplaceRequest) → changes_terms o m ≡ true → first_row (change_rows m o given) ≡ request_refused_by refusals.OtherTerms
+pub other_terms : (o : NamedOrder) (given : ℕ) (m : ReplaceRequest) → changes_terms o m ≡ true
+    → first_row (change_rows m o given) ≡ request_refused_by refusals.OtherTerms
 unfolding change_table
 other_terms o given m other = rw other refl
 
@@ -57,30 +66,38 @@ pub record PassesKind (o : NamedOrder) (m : ReplaceRequest) : Type 0 where
   pub life_time : is_none_of life_times (char_text m.time_in_force) ≡ false
   pub instruction : is_none_of (codes "6" ∷ []) m.exec_inst ≡ false
 
-pub by_quantity : (o : NamedOrder) (given : ℕ) (m : ReplaceRequest) → PassesKind o m → is_ok (quantity 1 m.order_qty) ≡ false → first_row (change_rows m o given) ≡ request_refused_by refusals.Quantity
+pub by_quantity : (o : NamedOrder) (given : ℕ) (m : ReplaceRequest) → PassesKind o m
+    → is_ok (quantity 1 m.order_qty) ≡ false → first_row (change_rows m o given) ≡ request_refused_by refusals.Quantity
 unfolding change_table
 by_quantity o given m passes unread = rw (passes.terms, passes.type, passes.life_time, passes.instruction, unread) refl
 
-pub by_minimum : (o : NamedOrder) (given : ℕ) (m : ReplaceRequest) (shares : ℕ) → PassesKind o m → ◌≡◌ {A = Result ℕ DecimalRefusal} (quantity 1 m.order_qty) (Ok shares) → is_no_minimum shares m.min_qty ≡ true
+pub by_minimum : (o : NamedOrder) (given : ℕ) (m : ReplaceRequest) (shares : ℕ) → PassesKind o m
+    → ◌≡◌ {A = Result ℕ DecimalRefusal} (quantity 1 m.order_qty) (Ok shares) → is_no_minimum shares m.min_qty ≡ true
     → first_row (change_rows m o given) ≡ request_refused_by refusals.MinimumQuantity
 unfolding change_table
-by_minimum o given m shares passes said bad = rw (passes.terms, passes.type, passes.life_time, passes.instruction, said, bad) refl
+by_minimum o given m shares passes said bad =
+    rw (passes.terms, passes.type, passes.life_time, passes.instruction, said, bad) refl
 
 -- with shares and a minimum read, the rows on 44 and the last ones decide
 abbrev last : NamedOrder → ℕ → ℕ → Verdict
-last o given shares = first_row (last_rows (nat_le shares o.executed) (nat_le most_replaces o.replaces) (nat_le last_token given))
+last o given shares = first_row (last_rows (nat_le shares o.executed) (nat_le most_replaces o.replaces)
+    (nat_le last_token given))
 
-by_price : (o : NamedOrder) (given : ℕ) (m : ReplaceRequest) (shares : ℕ) → PassesKind o m → ◌≡◌ {A = Result ℕ DecimalRefusal} (quantity 1 m.order_qty) (Ok shares) → is_no_minimum shares m.min_qty ≡ false
+by_price : (o : NamedOrder) (given : ℕ) (m : ReplaceRequest) (shares : ℕ) → PassesKind o m
+    → ◌≡◌ {A = Result ℕ DecimalRefusal} (quantity 1 m.order_qty) (Ok shares) → is_no_minimum shares m.min_qty ≡ false
     → first_row (change_rows m o given) ≡ follows (first_row (price_rows_of m.price)) (last o given shares)
 unfolding change_table
 by_price o given m shares passes said good =
     rw (passes.terms, passes.type, passes.life_time, passes.instruction, said, good)
-    (first_row-append (price_rows_of m.price) (last_rows (nat_le shares o.executed) (nat_le most_replaces o.replaces) (nat_le last_token given)))
+    (first_row-append (price_rows_of m.price)
+    (last_rows (nat_le shares o.executed) (nat_le most_replaces o.replaces) (nat_le last_token given)))
 
-pub price_refused : (o : NamedOrder) (given : ℕ) (m : ReplaceRequest) (shares : ℕ) (refusal : Refusal) → PassesKind o m → ◌≡◌ {A = Result ℕ DecimalRefusal} (quantity 1 m.order_qty) (Ok shares) → is_no_minimum shares m.min_qty ≡ false
+pub price_refused : (o : NamedOrder) (given : ℕ) (m : ReplaceRequest) (shares : ℕ) (refusal : Refusal) → PassesKind o m
+    → ◌≡◌ {A = Result ℕ DecimalRefusal} (quantity 1 m.order_qty) (Ok shares) → is_no_minimum shares m.min_qty ≡ false
     → RefusesPrice (price_read m.price) refusal → first_row (change_rows m o given) ≡ request_refused_by refusal
 price_refused o given m shares refusal passes said good refuses =
-    by_price o given m shares passes said good ∙ ap (λ (v : Verdict). follows v (last o given shares)) (price-refused_request m.price refusal refuses)
+    by_price o given m shares passes said good
+    ∙ ap (λ (v : Verdict). follows v (last o given shares)) (price-refused_request m.price refusal refuses)
 
 -- no row on what it says itself holds, with these shares and this price
 pub record PassesFields (o : NamedOrder) (m : ReplaceRequest) (shares limit : ℕ) : Type 0 where
@@ -90,25 +107,33 @@ pub record PassesFields (o : NamedOrder) (m : ReplaceRequest) (shares limit : �
   pub read : price_read m.price ≡ Some (Ok limit)
 
 -- then the last ones decide
-by_last : (o : NamedOrder) (given : ℕ) (m : ReplaceRequest) (shares limit : ℕ) → PassesFields o m shares limit → first_row (change_rows m o given) ≡ last o given shares
+by_last : (o : NamedOrder) (given : ℕ) (m : ReplaceRequest) (shares limit : ℕ) → PassesFields o m shares limit
+    → first_row (change_rows m o given) ≡ last o given shares
 by_last o given m shares limit passes =
-    by_price o given m shares passes.kind passes.said passes.good ∙ ap (λ (v : Verdict). follows v (last o given shares)) (price-taken m.price limit passes.read)
+    by_price o given m shares passes.kind passes.said passes.good
+    ∙ ap (λ (v : Verdict). follows v (last o given shares)) (price-taken m.price limit passes.read)
 
-pub by_total : (o : NamedOrder) (given : ℕ) (m : ReplaceRequest) (shares limit : ℕ) → PassesFields o m shares limit → nat_le shares o.executed ≡ true
+pub by_total : (o : NamedOrder) (given : ℕ) (m : ReplaceRequest) (shares limit : ℕ) → PassesFields o m shares limit
+    → nat_le shares o.executed ≡ true
     → first_row (change_rows m o given) ≡ request_refused_by refusals.TotalNotAboveExecuted
 by_total o given m shares limit passes low = by_last o given m shares limit passes ∙ rw low refl
 
-pub by_limit : (o : NamedOrder) (given : ℕ) (m : ReplaceRequest) (shares limit : ℕ) → PassesFields o m shares limit → nat_le shares o.executed ≡ false → nat_le most_replaces o.replaces ≡ true
+pub by_limit : (o : NamedOrder) (given : ℕ) (m : ReplaceRequest) (shares limit : ℕ) → PassesFields o m shares limit
+    → nat_le shares o.executed ≡ false → nat_le most_replaces o.replaces ≡ true
     → first_row (change_rows m o given) ≡ request_refused_by refusals.ReplaceLimit
 by_limit o given m shares limit passes above many = by_last o given m shares limit passes ∙ rw (above, many) refl
 
-pub by_token : (o : NamedOrder) (given : ℕ) (m : ReplaceRequest) (shares limit : ℕ) → PassesFields o m shares limit → nat_le shares o.executed ≡ false → nat_le most_replaces o.replaces ≡ false → nat_le last_token given ≡ true
+pub by_token : (o : NamedOrder) (given : ℕ) (m : ReplaceRequest) (shares limit : ℕ) → PassesFields o m shares limit
+    → nat_le shares o.executed ≡ false → nat_le most_replaces o.replaces ≡ false → nat_le last_token given ≡ true
     → first_row (change_rows m o given) ≡ request_refused_by refusals.NoTokenLeft
-by_token o given m shares limit passes above few spent = by_last o given m shares limit passes ∙ rw (above, few, spent) refl
+by_token o given m shares limit passes above few spent = by_last o given m shares limit passes
+    ∙ rw (above, few, spent) refl
 
-pub by_none : (o : NamedOrder) (given : ℕ) (m : ReplaceRequest) (shares limit : ℕ) → PassesFields o m shares limit → nat_le shares o.executed ≡ false → nat_le most_replaces o.replaces ≡ false → nat_le last_token given ≡ false
+pub by_none : (o : NamedOrder) (given : ℕ) (m : ReplaceRequest) (shares limit : ℕ) → PassesFields o m shares limit
+    → nat_le shares o.executed ≡ false → nat_le most_replaces o.replaces ≡ false → nat_le last_token given ≡ false
     → first_row (change_rows m o given) ≡ Accepted
-by_none o given m shares limit passes above few left = by_last o given m shares limit passes ∙ rw (above, few, left) refl
+by_none o given m shares limit passes above few left = by_last o given m shares limit passes
+    ∙ rw (above, few, left) refl
 
 -- an ask that has what each field says
 pub record HasFields (ask : ReplaceAsk) (m : ReplaceRequest) : Type 0 where
@@ -120,7 +145,8 @@ pub record HasFields (ask : ReplaceAsk) (m : ReplaceRequest) : Type 0 where
   pub minimum : ask.minimum_quantity ≡ minimum m.min_qty
 
 -- says what the message asks
-pub AsksToReplace-fields : (ask : ReplaceAsk) (m : ReplaceRequest) → HasFields ask m → AsksToReplace ask (replace_request_fields m)
+pub AsksToReplace-fields : (ask : ReplaceAsk) (m : ReplaceRequest) → HasFields ask m
+    → AsksToReplace ask (replace_request_fields m)
 AsksToReplace-fields ask m has = record {
   kind = kind-replace m;
   shares = sym (total_of-replace m ∙ ap (λ (r : Result ℕ DecimalRefusal). result_unwrap_or r 0) has.shares);

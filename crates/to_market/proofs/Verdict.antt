@@ -1,5 +1,6 @@
 -- The verdict of the rows on a new order's fields, one row after another.
-use Rattle.std.proofs.Common.{◌≡◌, Bool, true, false, ℕ, ◌-◌, List, [], ◌∷◌, ◌++◌, length, replicate, refl, sym, ap, ◌∙◌}
+use Rattle.std.proofs.Common.{◌≡◌, Bool, true, false, ℕ, ◌-◌, List, [], ◌∷◌, ◌++◌, length, replicate, refl, sym, ap}
+use Rattle.std.proofs.Common.{◌∙◌}
 use Rattle.std.specs.Prelude.{◌&&◌, not, nat_le, is_ok, bytes_eq, codes, Result, Ok, Some, unwrap_or}
 use Rattle.std.specs.List.{list_all}
 use Rattle.std.specs.Result.{result_unwrap_or}
@@ -17,7 +18,9 @@ use Rattle.to_market.specs.FieldRows.{life_time, display, minimum, minimum_said}
 use Rattle.to_market.specs.NewAsks.{AsksAs}
 use Rattle.to_market.specs.declared.new_ask.NewAsk.{NewAsk}
 use Rattle.to_market.proofs.Rows.{price_rows_of}
-use Rattle.to_market.proofs.Fields.{table, field_rows-fields, character-fields, symbol-fields, total_of-fields, limit_of-fields, life_time_of-fields, display_of-fields, capacity_of-fields, minimum_of-fields}
+use Rattle.to_market.proofs.Fields.{table, field_rows-fields, character-fields, symbol-fields, total_of-fields}
+use Rattle.to_market.proofs.Fields.{limit_of-fields, life_time_of-fields, display_of-fields, capacity_of-fields}
+use Rattle.to_market.proofs.Fields.{minimum_of-fields}
 use Rattle.order_law.specs.Asks.{LifeTime, side_of_letter, life_time_of_seconds}
 use Rattle.ouch_codec.specs.Letters.{side_letter}
 use Rattle.ouch_codec.specs.Parts.{unpadded}
@@ -35,25 +38,38 @@ pub record PassesTerms (m : NewOrder) : Type 0 where
 
 -- then those decide
 abbrev amounts : (quantity minimum : Bool) → List Row → List Row
-amounts quantity minimum prices = refusal_row quantity refusals.Quantity ∷ refusal_row minimum refusals.MinimumQuantity ∷ prices
+amounts quantity minimum prices = refusal_row quantity refusals.Quantity ∷ refusal_row minimum refusals.MinimumQuantity
+    ∷ prices
 
-pub by_amounts : (m : NewOrder) → PassesTerms m → first_row (field_rows (new_order_fields m)) ≡ first_row (amounts (not (is_ok (quantity 1 m.order_qty))) (is_no_minimum (result_unwrap_or (quantity 1 m.order_qty) 0) m.min_qty) (price_rows_of m.price))
+pub by_amounts : (m : NewOrder) → PassesTerms m
+    → first_row (field_rows (new_order_fields m))
+    ≡ first_row (amounts (not (is_ok (quantity 1 m.order_qty)))
+    (is_no_minimum (result_unwrap_or (quantity 1 m.order_qty) 0) m.min_qty) (price_rows_of m.price))
 unfolding table
-by_amounts m passes = ap first_row (field_rows-fields m) ∙ rw (passes.side, passes.symbol, passes.type, passes.life_time, passes.instruction, passes.capacity) refl
+by_amounts m passes = ap first_row (field_rows-fields m)
+    ∙ rw (passes.side, passes.symbol, passes.type, passes.life_time, passes.instruction, passes.capacity) refl
 
-pub by_quantity : (m : NewOrder) → PassesTerms m → is_ok (quantity 1 m.order_qty) ≡ false → first_row (field_rows (new_order_fields m)) ≡ refused_by refusals.Quantity
+pub by_quantity : (m : NewOrder) → PassesTerms m → is_ok (quantity 1 m.order_qty) ≡ false
+    → first_row (field_rows (new_order_fields m)) ≡ refused_by refusals.Quantity
 by_quantity m passes unread = by_amounts m passes ∙ rw unread refl
 
 -- with shares read
-pub by_minimum : (m : NewOrder) (shares : ℕ) → PassesTerms m → ◌≡◌ {A = Result ℕ DecimalRefusal} (quantity 1 m.order_qty) (Ok shares) → is_no_minimum shares m.min_qty ≡ true → first_row (field_rows (new_order_fields m)) ≡ refused_by refusals.MinimumQuantity
+pub by_minimum : (m : NewOrder) (shares : ℕ) → PassesTerms m
+    → ◌≡◌ {A = Result ℕ DecimalRefusal} (quantity 1 m.order_qty) (Ok shares) → is_no_minimum shares m.min_qty ≡ true
+    → first_row (field_rows (new_order_fields m)) ≡ refused_by refusals.MinimumQuantity
 by_minimum m shares passes said bad = by_amounts m passes ∙ rw (said, bad) refl
 
 -- and a minimum
-pub by_price : (m : NewOrder) (shares : ℕ) → PassesTerms m → ◌≡◌ {A = Result ℕ DecimalRefusal} (quantity 1 m.order_qty) (Ok shares) → is_no_minimum shares m.min_qty ≡ false → first_row (field_rows (new_order_fields m)) ≡ first_row (price_rows_of m.price)
+pub by_price : (m : NewOrder) (shares : ℕ) → PassesTerms m
+    → ◌≡◌ {A = Result ℕ DecimalRefusal} (quantity 1 m.order_qty) (Ok shares) → is_no_minimum shares m.min_qty ≡ false
+    → first_row (field_rows (new_order_fields m)) ≡ first_row (price_rows_of m.price)
 by_price m shares passes said good = by_amounts m passes ∙ rw (said, good) refl
 
-unpadded-symbol : (symbol : List ℕ) → is_symbol symbol ≡ true → unpadded (symbol ++ replicate (8 - length symbol) 32) ≡ symbol
-unpadded-symbol symbol good = unpadded-padded symbol (8 - length symbol) (both (nat_le (length symbol) 8) (list_all is_visible symbol) (both (nat_le 1 (length symbol)) (nat_le (length symbol) 8 && list_all is_visible symbol) good).1).1
+unpadded-symbol : (symbol : List ℕ) → is_symbol symbol ≡ true
+    → unpadded (symbol ++ replicate (8 - length symbol) 32) ≡ symbol
+unpadded-symbol symbol good = unpadded-padded symbol (8 - length symbol)
+    (both (nat_le (length symbol) 8) (list_all is_visible symbol)
+    (both (nat_le 1 (length symbol)) (nat_le (length symbol) 8 && list_all is_visible symbol) good).1).1
 
 -- an ask that has what each field says
 pub record HasFields (ask : NewAsk) (own : ℕ) (m : NewOrder) : Type 0 where
@@ -67,7 +83,8 @@ pub record HasFields (ask : NewAsk) (own : ℕ) (m : NewOrder) : Type 0 where
   pub minimum : ask.minimum_quantity ≡ minimum_said (char_text m.time_in_force) ask.shares (minimum m.min_qty)
 
 -- says what the message asks
-pub AsksAs-fields : (ask : NewAsk) (own : ℕ) (m : NewOrder) → is_symbol m.symbol ≡ true → HasFields ask own m → AsksAs ask own (new_order_fields m)
+pub AsksAs-fields : (ask : NewAsk) (own : ℕ) (m : NewOrder) → is_symbol m.symbol ≡ true → HasFields ask own m
+    → AsksAs ask own (new_order_fields m)
 AsksAs-fields ask own m good has = record {
   side = has.side ∙ ap (λ (b : ℕ). Some b) (sym (character-fields m));
   shares = sym (total_of-fields m ∙ ap (λ (r : Result ℕ DecimalRefusal). result_unwrap_or r 0) has.shares);
@@ -77,5 +94,6 @@ AsksAs-fields ask own m good has = record {
   life_time = has.life_time ∙ ap (λ (l : LifeTime). Some l) (sym (life_time_of-fields m));
   display = has.display ∙ sym (display_of-fields m);
   capacity = has.capacity ∙ sym (capacity_of-fields own m);
-  minimum = has.minimum ∙ ap (λ (r : Result ℕ DecimalRefusal). minimum_said (char_text m.time_in_force) (result_unwrap_or r 0) (minimum m.min_qty)) (sym has.shares) ∙ sym (minimum_of-fields m);
+  minimum = has.minimum ∙ ap (λ (r : Result ℕ DecimalRefusal). minimum_said (char_text m.time_in_force)
+      (result_unwrap_or r 0) (minimum m.min_qty)) (sym has.shares) ∙ sym (minimum_of-fields m);
 }

@@ -1,9 +1,11 @@
 -- Pages with more records behind are the pages, the last of them with more bytes perhaps, and more pages behind.
-use Rattle.std.proofs.Common.{◌≡◌, ℕ, zero, suc, ◌+◌, Bool, true, false, List, [], ◌∷◌, ◌++◌, length, refl, sym, ap, subst, ◌∙◌, arith, append-nil, append_assoc, length-append}
+use Rattle.std.proofs.Common.{◌≡◌, ℕ, zero, suc, ◌+◌, Bool, true, false, List, [], ◌∷◌, ◌++◌, length, refl, sym, ap}
+use Rattle.std.proofs.Common.{subst, ◌∙◌, arith, append-nil, append_assoc, length-append}
 use Rattle.std.specs.Prelude.{if◌then◌else◌}
 use mathlib.Core.List.{IsPrefix}
 use Rattle.journal_pages.specs.Record.{Record}
-use Rattle.journal_days.specs.Cut.{IsMoreOf, has_room, last_size, last_with, number_behind, page_with, record_text, with_records, with_text}
+use Rattle.journal_days.specs.Cut.{IsMoreOf, has_room, last_size, last_with, number_behind, page_with, record_text}
+use Rattle.journal_days.specs.Cut.{with_records, with_text}
 
 abbrev pub GoesOn : List (List ℕ) → List (List ℕ) → Type 0
 GoesOn [] now = Unit {0}
@@ -24,7 +26,8 @@ goes-text [] now text g = tt
 goes-text (page ∷ pages) [] text g = absurd g
 goes-text (page ∷ []) (last ∷ []) text g = by_room (has_room last (length text))
   where
-    by_room : (b : Bool) → GoesOn (page ∷ []) (if b then (last ++ text) ∷ [] else last ∷ page_with (number_behind last) text ∷ [])
+    by_room : (b : Bool) → GoesOn (page ∷ [])
+        (if b then (last ++ text) ∷ [] else last ∷ page_with (number_behind last) text ∷ [])
     by_room true = longer page last text g
     by_room false = g
 goes-text (page ∷ []) (last ∷ other ∷ now) text g = g
@@ -33,10 +36,12 @@ goes-text (page ∷ next ∷ pages) (last ∷ other ∷ now) text g = (g.0, goes
 
 goes-records : (before now : List (List ℕ)) (rs : List Record) → GoesOn before now → GoesOn before (with_records now rs)
 goes-records before now [] g = g
-goes-records before now (r ∷ rs) g = goes-records before (with_text now (record_text r)) rs (goes-text before now (record_text r) g)
+goes-records before now (r ∷ rs) g = goes-records before (with_text now (record_text r)) rs
+    (goes-text before now (record_text r) g)
 
 pub more-goes-on : (before now : List (List ℕ)) → IsMoreOf before now → GoesOn before now
-more-goes-on before now more = subst (λ (pages : List (List ℕ)). GoesOn before pages) (sym more.same) (goes-records before before more.records (goes-self before))
+more-goes-on before now more = subst (λ (pages : List (List ℕ)). GoesOn before pages) (sym more.same)
+    (goes-records before before more.records (goes-self before))
 
 -- ---- the same end, the same pages
 
@@ -50,7 +55,8 @@ nothing-more page last p same =
     none [] e = refl
     none (x ∷ l) e = absurd (omega (arith, e))
 
-pub same-end : (before now : List (List ℕ)) → GoesOn before now → length now ≡ length before → last_size now ≡ last_size before → now ≡ before
+pub same-end : (before now : List (List ℕ)) → GoesOn before now → length now ≡ length before
+    → last_size now ≡ last_size before → now ≡ before
 same-end [] [] g count size = refl
 same-end [] (page ∷ now) g count size = absurd (omega (arith, count))
 same-end (page ∷ pages) [] g count size = absurd g

@@ -1,5 +1,7 @@
--- Whatever came to a market was asked: then what it says is no fault when it is handled, in the order in which it was said.
-use Rattle.std.proofs.Common.{◌≡◌, ℕ, ◌<◌, ◌≤◌, ◌^◌, List, [], ◌∷◌, ◌++◌, length, sym, ap, ◌∙◌, subst, Option, Some, None, Ok}
+-- Whatever came to a market was asked: then what it says is no fault when it is handled, in the order in which it was
+-- said.
+use Rattle.std.proofs.Common.{◌≡◌, ℕ, ◌<◌, ◌≤◌, ◌^◌, List, [], ◌∷◌, ◌++◌, length, sym, ap, ◌∙◌, subst, Option, Some}
+use Rattle.std.proofs.Common.{None, Ok}
 use Rattle.std.specs.Prelude.{option_map}
 use Rattle.order_law.specs.ouch_codec.declared.inbound.Inbound.{Inbound}
 use Rattle.order_law.specs.ouch_codec.declared.inbound.Inbound.TheVariants as ask
@@ -23,7 +25,8 @@ use Rattle.world_law.proofs.Judged.{judged-lawful}
 use Rattle.world_law.proofs.Homes.{always-of-orders}
 use Rattle.world_law.proofs.Oldest.{are-oldest}
 
-each-behind : (lead : List ℕ → Option (List ℕ)) (P : Inbound → Type 0) (xs ys : List Outbound) → EachSaid lead P (xs ++ ys) → EachSaid lead P ys
+each-behind : (lead : List ℕ → Option (List ℕ)) (P : Inbound → Type 0) (xs ys : List Outbound)
+    → EachSaid lead P (xs ++ ys) → EachSaid lead P ys
 each-behind lead P [] ys e = e
 each-behind lead P (x ∷ xs) ys e = each-behind lead P xs ys e.1
 
@@ -31,7 +34,8 @@ module _ (terms : List Terms) (port : ℕ) (h : OrderHistory) (always : AlwaysOf
   abbrev A : List Entry
   A = accepted terms h
 
-  known-message : (message : Inbound) (choice : Choice) → WasAsked terms port h message → IsKnown (leads terms port A) (WasAsked terms port h) (Comes message choice)
+  known-message : (message : Inbound) (choice : Choice) → WasAsked terms port h message
+      → IsKnown (leads terms port A) (WasAsked terms port h) (Comes message choice)
   known-message (ask.Enter order) choice w =
       let o = of-order terms port w.asks h always w.there in
       let lead = subst (TokensLead terms port A o.new) (enter-said w.asks.said order w.says.tokens) o.tokens in
@@ -46,22 +50,29 @@ module _ (terms : List Terms) (port : ℕ) (h : OrderHistory) (always : AlwaysOf
   known-move (Comes message choice) w = known-message message choice w
   known-move (Acts choice) w = tt
 
-  pub known-moves : (moves : List Move) → Each (CameAsked terms port h) moves → Each (IsKnown (leads terms port A) (WasAsked terms port h)) moves
-  known-moves moves came = each-all (CameAsked terms port h) (IsKnown (leads terms port A) (WasAsked terms port h)) moves known-move came
+  pub known-moves : (moves : List Move) → Each (CameAsked terms port h) moves
+      → Each (IsKnown (leads terms port A) (WasAsked terms port h)) moves
+  known-moves moves came = each-all (CameAsked terms port h)
+      (IsKnown (leads terms port A) (WasAsked terms port h)) moves known-move came
 
-  pub told : (moves : List Move) → Each (CameAsked terms port h) moves → EachSaid (leads terms port A) (WasAsked terms port h) (ran moves).said
+  pub told : (moves : List Move) → Each (CameAsked terms port h) moves
+      → EachSaid (leads terms port A) (WasAsked terms port h) (ran moves).said
   told moves came = (ran-told (leads terms port A) (WasAsked terms port h) moves (known-moves moves came)).each
 
-pub no-fault : (terms : List Terms) (port : ℕ) (h : OrderHistory) (s : TableState) (moves : List Move) (newer : List Outbound) (m : Outbound)
+pub no-fault : (terms : List Terms) (port : ℕ) (h : OrderHistory) (s : TableState) (moves : List Move)
+    (newer : List Outbound) (m : Outbound)
     → length h < 2 ^ 59 → TurnsLeave terms h s → Each (CameAsked terms port h) moves
     → (ran moves).said ≡ newer ++ m ∷ handled port h → judgement terms port (Ok m) h ≡ None
 no-fault terms port h s moves newer m short leaves came split =
     let always = always-of-orders terms h s short leaves port in
     let each = each-behind (leads terms port (accepted terms h)) (WasAsked terms port h) newer (m ∷ handled port h)
-    (subst (EachSaid (leads terms port (accepted terms h)) (WasAsked terms port h)) split (told terms port h always moves came)) in
+    (subst (EachSaid (leads terms port (accepted terms h)) (WasAsked terms port h)) split
+    (told terms port h always moves came)) in
     judged-lawful terms port h always (are-oldest terms h s short leaves port) m each.0
 
 pub once : (terms : List Terms) (port : ℕ) (h : OrderHistory) (s : TableState) (moves : List Move)
-    → length h < 2 ^ 59 → TurnsLeave terms h s → Each (CameAsked terms port h) moves → (u : List ℕ) → times (names u) (ran moves).said ≤ 1
+    → length h < 2 ^ 59 → TurnsLeave terms h s → Each (CameAsked terms port h) moves → (u : List ℕ)
+    → times (names u) (ran moves).said ≤ 1
 once terms port h s moves short leaves came u =
-    named-once (leads terms port (accepted terms h)) (WasAsked terms port h) u (ran moves).said (told terms port h (always-of-orders terms h s short leaves port) moves came)
+    named-once (leads terms port (accepted terms h)) (WasAsked terms port h) u (ran moves).said
+    (told terms port h (always-of-orders terms h s short leaves port) moves came)

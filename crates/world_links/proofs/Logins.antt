@@ -1,5 +1,7 @@
 -- A number that is padded left with spaces is read as the number: by the market, and by the session.
-use Rattle.std.proofs.Common.{◌≡◌, ℕ, zero, suc, ◌+◌, ◌-◌, ◌<◌, ◌≤◌, ◌^◌, Bool, true, false, List, [], ◌∷◌, ◌++◌, length, take, drop, replicate, refl, sym, ap, ◌∙◌, subst, arith, decimal, Some, ◌⊎◌, inl, inr, eqb-true, eq-eqb, length-append, append_assoc}
+use Rattle.std.proofs.Common.{◌≡◌, ℕ, zero, suc, ◌+◌, ◌-◌, ◌<◌, ◌≤◌, ◌^◌, Bool, true, false, List, [], ◌∷◌, ◌++◌}
+use Rattle.std.proofs.Common.{length, take, drop, replicate, refl, sym, ap, ◌∙◌, subst, arith, decimal, Some, ◌⊎◌, inl}
+use Rattle.std.proofs.Common.{inr, eqb-true, eq-eqb, length-append, append_assoc}
 use Rattle.std.proofs.lemmas.List.{length-replicate}
 use Rattle.std.proofs.lemmas.Bool.Decides.{nat_tests}
 use Rattle.std.proofs.lemmas.Fmt.{decimal_nonempty, digits_decimal, digits_value-decimal, length-decimal-le}
@@ -41,31 +43,37 @@ module _ (n : ℕ) (some : 1 ≤ n) (small : n < 2 ^ 63) where
   under m k h = grind (arith, nat_tests)
 
   -- digits begin with no space
-  no-space : (ds : List ℕ) → list_all is_ascii_digit ds ≡ true → (behind_spaces ds ≡ ds) × (without_leading_spaces ds ≡ ds)
+  no-space : (ds : List ℕ) → list_all is_ascii_digit ds ≡ true
+      → (behind_spaces ds ≡ ds) × (without_leading_spaces ds ≡ ds)
   no-space [] e = (refl, refl)
   no-space (c ∷ cs) e = by_test (c == 32) refl
     where
       isnt : c ≡ 32 → ⊥
-      isnt is = let f : (is_ascii_digit 32 && list_all is_ascii_digit cs) ≡ true = ap (λ d. is_ascii_digit d && list_all is_ascii_digit cs) (sym is) ∙ e in cc
+      isnt is = let f : (is_ascii_digit 32 && list_all is_ascii_digit cs) ≡ true =
+          ap (λ d. is_ascii_digit d && list_all is_ascii_digit cs) (sym is) ∙ e in cc
 
-      by_test : (b : Bool) → (c == 32) ≡ b → (behind_spaces (c ∷ cs) ≡ c ∷ cs) × (without_leading_spaces (c ∷ cs) ≡ c ∷ cs)
+      by_test : (b : Bool) → (c == 32) ≡ b → (behind_spaces (c ∷ cs) ≡ c ∷ cs)
+          × (without_leading_spaces (c ∷ cs) ≡ c ∷ cs)
       by_test true t = absurd (isnt (eqb-true c 32 t))
       by_test false t = (rw t refl, rw t refl)
 
-  behind : (k : ℕ) → (behind_spaces (replicate k 32 ++ decimal n) ≡ decimal n) × (without_leading_spaces (replicate k 32 ++ decimal n) ≡ decimal n)
+  behind : (k : ℕ) → (behind_spaces (replicate k 32 ++ decimal n) ≡ decimal n)
+      × (without_leading_spaces (replicate k 32 ++ decimal n) ≡ decimal n)
   behind zero = no-space (decimal n) are-digits
   behind (suc k) = behind k
 
   pub asked-number : number_asked (padded_number n) ≡ Some n
   asked-number =
       let bare = (behind (20 - length (decimal n))).0 in
-      let asks : is_number_asked (decimal n) ≡ true = rw (filled, are-digits, value, at-least n some, under n (2 ^ 64) below) refl in
+      let asks : is_number_asked (decimal n) ≡ true =
+      rw (filled, are-digits, value, at-least n some, under n (2 ^ 64) below) refl in
       rw (bare, asks) (ap Some value)
 
   pub login-number : field_number (padded_number n) ≡ Some n
   login-number =
       let bare = (behind (20 - length (decimal n))).1 in
-      let asks : is_login_number (decimal n) ≡ true = rw (filled, are-digits, value, at-least n some, under n (2 ^ 63) small) refl in
+      let asks : is_login_number (decimal n) ≡ true =
+      rw (filled, are-digits, value, at-least n some, under n (2 ^ 63) small) refl in
       rw (bare, asks) (ap Some value)
 
 -- ---- fields of a payload
@@ -83,10 +91,20 @@ take-front (x ∷ xs) ys zero e = absurd (omega (arith, e))
 take-front (x ∷ xs) ys (suc n) e = ap (λ zs. x ∷ zs) (take-front xs ys n (omega (arith, e)))
 
 padded-length : (n : ℕ) (text : List ℕ) → length text ≤ n → length (padded_right n text) ≡ n
-padded-length n text short = omega (arith, length-append text (replicate (n - length text) 32), length-replicate {A = ℕ} (n - length text) 32)
+padded-length n text short = omega (
+  arith,
+  length-append text (replicate (n - length text) 32),
+  length-replicate {A = ℕ}
+      (n - length text) 32,
+)
 
 number-length : (n : ℕ) → length (decimal n) ≤ 20 → length (padded_number n) ≡ 20
-number-length n short = omega (arith, length-append (replicate (20 - length (decimal n)) 32) (decimal n), length-replicate {A = ℕ} (20 - length (decimal n)) 32)
+number-length n short = omega (
+  arith,
+  length-append (replicate (20 - length (decimal n)) 32)
+      (decimal n),
+  length-replicate {A = ℕ} (20 - length (decimal n)) 32,
+)
 
 module _ (u p s f : List ℕ) (u_is : length u ≡ 6) (p_is : length p ≡ 10) (s_is : length s ≡ 10) where
   front : u ++ (p ++ (s ++ f)) ≡ (u ++ p) ++ (s ++ f)
@@ -96,7 +114,8 @@ module _ (u p s f : List ℕ) (u_is : length u ≡ 6) (p_is : length p ≡ 10) (
   front-is = omega (arith, length-append u p)
 
   pub session-in : take 10 (drop 16 (u ++ (p ++ (s ++ f)))) ≡ s
-  session-in = ap (λ xs. take 10 (drop 16 xs)) front ∙ ap (take 10) (drop-front (u ++ p) (s ++ f) 16 front-is) ∙ take-front s f 10 s_is
+  session-in = ap (λ xs. take 10 (drop 16 xs)) front ∙ ap (take 10) (drop-front (u ++ p) (s ++ f) 16 front-is)
+      ∙ take-front s f 10 s_is
 
   pub field-in : drop 26 (u ++ (p ++ (s ++ f))) ≡ f
   field-in =
@@ -108,7 +127,8 @@ module _ (u p s f : List ℕ) (u_is : length u ≡ 6) (p_is : length p ≡ 10) (
 
 -- ---- the two logins
 
-here : (session : List ℕ) → (session ≡ blank) ⊎ (session ≡ market_session) → (length session ≡ 10) × (is_session_here session ≡ true)
+here : (session : List ℕ) → (session ≡ blank) ⊎ (session ≡ market_session)
+    → (length session ≡ 10) × (is_session_here session ≡ true)
 here session (inl is) = subst (λ (x : List ℕ). (length x ≡ 10) × (is_session_here x ≡ true)) (sym is) (refl, refl)
 here session (inr is) = subst (λ (x : List ℕ). (length x ≡ 10) × (is_session_here x ≡ true)) (sym is) (refl, refl)
 
@@ -122,15 +142,25 @@ login-asks user password session number count user_short password_short is some 
     let known = here session is in
     let u_is = padded-length 6 user user_short in
     let p_is = padded-length 10 password password_short in
-    let whole = eq-eqb _ 46 (length-in (padded_right 6 user) (padded_right 10 password) session (padded_number number) u_is p_is known.0 (number-length number (few-digits number some small))) in
-    let its_session = session-in (padded_right 6 user) (padded_right 10 password) session (padded_number number) u_is p_is known.0 in
-    let its_field = field-in (padded_right 6 user) (padded_right 10 password) session (padded_number number) u_is p_is known.0 in
+    let whole = eq-eqb _ 46 (length-in (padded_right 6 user) (padded_right 10 password) session
+    (padded_number number) u_is p_is known.0 (number-length number (few-digits number some small))) in
+    let its_session = session-in (padded_right 6 user) (padded_right 10 password) session
+    (padded_number number) u_is p_is known.0 in
+    let its_field = field-in (padded_right 6 user) (padded_right 10 password) session
+    (padded_number number) u_is p_is known.0 in
     let its_number = asked-number number some small in
     let here_is = known.1 in
     rw (whole, its_session, here_is, its_field, its_number, at-most number (count + 1) few) refl
 
-pub login-accepted : (number : ℕ) → 1 ≤ number → number < 2 ^ 63 → said_of (accepts_login number) ≡ Accepted market_session (Some number)
+pub login-accepted : (number : ℕ) → 1 ≤ number → number < 2 ^ 63
+    → said_of (accepts_login number) ≡ Accepted market_session (Some number)
 login-accepted number some small =
-    let whole : (length (market_session ++ padded_number number) == 30) ≡ true = eq-eqb _ 30 (omega (arith, length-append market_session (padded_number number), number-length number (few-digits number some small))) in
+    let whole : (length (market_session ++ padded_number number) == 30) ≡ true =
+    eq-eqb _ 30 (omega (
+      arith,
+      length-append market_session (padded_number number),
+      number-length number
+          (few-digits number some small),
+    )) in
     let its_number = login-number number some small in
     rw (whole, its_number) refl

@@ -10,4 +10,5 @@ below-test m n h = grind (arith, nat_tests)
 
 pub all-bytes : (bytes : List ℕ) → ((i : ℕ) → get_or bytes i 0 < 256) → list_all is_byte bytes ≡ true
 all-bytes [] all = refl
-all-bytes (b ∷ bytes) all = let first = below-test b 256 (all 0) in let rest = all-bytes bytes (λ i. all (suc i)) in rw (first, rest) refl
+all-bytes (b ∷ bytes) all = let first = below-test b 256 (all 0) in let rest = all-bytes bytes (λ i. all (suc i)) in
+    rw (first, rest) refl

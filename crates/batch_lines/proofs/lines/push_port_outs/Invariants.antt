@@ -7,4 +7,5 @@ use Rattle.batch_lines.specs.Lines.{shown_port_out}
 use Rattle.batch_lines.proofs.lines.push_port_outs.Given as goal
 
 abbrev pub invariant-loop-out : goal.invariant-loop-out
-invariant-loop-out l = l.text.items ≡ l.initial.text.items ++ flat_map (shown_port_out l.fn.port) (map link_out_seen (take l.out-index l.outs))
+invariant-loop-out l = l.text.items ≡ l.initial.text.items
+    ++ flat_map (shown_port_out l.fn.port) (map link_out_seen (take l.out-index l.outs))

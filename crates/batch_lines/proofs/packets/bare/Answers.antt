@@ -5,4 +5,5 @@ use Rattle.batch_lines.specs.Words.{started}
 use Rattle.batch_lines.proofs.packets.bare.Goals as goal
 
 pub returns : goal.returns
-returns c = trim_ascii_is c.args.field.now c.trim_ascii.result.now (started c.args.field.now) refl c.trim_ascii.ensures.value
+returns c = trim_ascii_is c.args.field.now c.trim_ascii.result.now
+    (started c.args.field.now) refl c.trim_ascii.ensures.value

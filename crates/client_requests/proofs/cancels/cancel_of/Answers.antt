@@ -14,13 +14,19 @@ returns-in_ok-body-in-Err g c = λ s stands.
     let o = c.args.order.now in
     let sender = c.args.sender.now in
     let held = c.args.table.now in
-    let of_order : o.new.order ≡ decimal c.order.inside.order_id = ap (λ (x : OrderRecord). x.new.order) (sym c.order.view_is) in
-    let named = named-in s c.args.issued sender held r.cl_ord_id c.args.is_used r.orig_cl_ord_id (Some o) stands c.requires.named in
-    let reads = read-in s c.args.issued sender held r.cl_ord_id c.args.is_used r.orig_cl_ord_id o c.order.inside.order_id c.replace_count-replaces.result c.named_of.result stands named of_order c.replace_count-replaces.ensures c.named_of.ensures.reads in
+    let of_order : o.new.order ≡ decimal c.order.inside.order_id =
+    ap (λ (x : OrderRecord). x.new.order) (sym c.order.view_is) in
+    let named = named-in s c.args.issued sender held r.cl_ord_id c.args.is_used r.orig_cl_ord_id
+    (Some o) stands c.requires.named in
+    let reads = read-in s c.args.issued sender held r.cl_ord_id c.args.is_used r.orig_cl_ord_id o
+    c.order.inside.order_id c.replace_count-replaces.result c.named_of.result stands named of_order
+    c.replace_count-replaces.ensures c.named_of.ensures.reads in
     refused-in s sender (cancel_request_fields r) (Some o) c.in-Err.refusal c.in_ok-body-in-Err.body refl named
-    (verdict-is s sender.client (cancel_request_fields r) (port_seen sender.port) c.args.is_used (Some o) refl stands.used named
+    (verdict-is s sender.client (cancel_request_fields r) (port_seen sender.port) c.args.is_used
+    (Some o) refl stands.used named
     ∙ c.in-Err.ensures (cancel_request_fields r) (Some (named_as s o)) (length s.tokens) refl reads)
-    (c.in_ok-body-in-Err.ensures (cancel_request_fields r) (Some (shown_as o)) c.of_cancel-asked.ensures c.shown_now.ensures)
+    (c.in_ok-body-in-Err.ensures (cancel_request_fields r)
+    (Some (shown_as o)) c.of_cancel-asked.ensures c.shown_now.ensures)
 
 pub returns-in-Ok : goal.returns-in-Ok
 returns-in-Ok g c =
@@ -30,13 +36,18 @@ returns-in-Ok g c =
     let o = c.args.order.now in
     let sender = c.args.sender.now in
     let held = c.args.table.now in
-    let of_order : o.new.order ≡ decimal c.order.inside.order_id = ap (λ (x : OrderRecord). x.new.order) (sym c.order.view_is) in
-    let named = named-in s c.args.issued sender held r.cl_ord_id c.args.is_used r.orig_cl_ord_id (Some o) stands c.requires.named in
-    let reads = read-in s c.args.issued sender held r.cl_ord_id c.args.is_used r.orig_cl_ord_id o c.order.inside.order_id c.replace_count-replaces.result c.named_of.result stands named of_order c.replace_count-replaces.ensures c.named_of.ensures.reads in
+    let of_order : o.new.order ≡ decimal c.order.inside.order_id =
+    ap (λ (x : OrderRecord). x.new.order) (sym c.order.view_is) in
+    let named = named-in s c.args.issued sender held r.cl_ord_id c.args.is_used r.orig_cl_ord_id
+    (Some o) stands c.requires.named in
+    let reads = read-in s c.args.issued sender held r.cl_ord_id c.args.is_used r.orig_cl_ord_id o
+    c.order.inside.order_id c.replace_count-replaces.result c.named_of.result stands named of_order
+    c.replace_count-replaces.ensures c.named_of.ensures.reads in
     accepts s (record {
       reports = stands.reports;
       named = named;
-      verdict = verdict-is s sender.client (cancel_request_fields r) (port_seen sender.port) c.args.is_used (Some o) refl stands.used named
+      verdict = verdict-is s sender.client (cancel_request_fields r) (port_seen sender.port) c.args.is_used
+          (Some o) refl stands.used named
           ∙ c.in-Ok.ensures (cancel_request_fields r) (Some (named_as s o)) (length s.tokens) refl reads;
     }))
     c.accept_cancel.ensures

@@ -14,6 +14,7 @@ returns-in_ok-body-in-None g c = λ s stands.
     let none = named-in s c.args.issued sender held r.cl_ord_id c.args.is_used r.orig_cl_ord_id None stands
     (ap (λ (k : List ℕ). found_by_id held sender.client k) (sym c.as_slice.ensures.bytes) ∙ c.in-None.ensures) in
     refused-in s sender (cancel_request_fields r) None c.unknown_row.result c.in_ok-body-in-None.body refl none
-    (verdict-is s sender.client (cancel_request_fields r) (port_seen sender.port) c.args.is_used None refl stands.used none
+    (verdict-is s sender.client (cancel_request_fields r)
+    (port_seen sender.port) c.args.is_used None refl stands.used none
     ∙ c.unknown_row.ensures (port_seen sender.port) (length s.tokens) (cancel_request_fields r))
     (c.in_ok-body-in-None.ensures (cancel_request_fields r) None c.of_cancel-asked.ensures tt)

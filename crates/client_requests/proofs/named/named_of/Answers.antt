@@ -16,8 +16,11 @@ returns-clause-reads c = λ s capacity count.
       capacity = search rules;
       is_closed = search rules;
       executed = search rules;
-      cancel = ap (λ (r : OrderRecord). chain.has_pending_cancel (chained r)) (sym c.order.view_is) ∙ any-cancel o.client o.order_id o.replaces o.cancel ∙ sym c.is_some.ensures;
-      pending = ap (λ (r : OrderRecord). length (chain.replaces (chained r))) (sym c.order.view_is) ∙ count-replaces o.client o.order_id o.replaces o.cancel ∙ ap (λ (rs : List Replacing). length rs) (sym c.as_slice-pending_replaces.ensures);
+      cancel = ap (λ (r : OrderRecord). chain.has_pending_cancel (chained r)) (sym c.order.view_is)
+          ∙ any-cancel o.client o.order_id o.replaces o.cancel ∙ sym c.is_some.ensures;
+      pending = ap (λ (r : OrderRecord). length (chain.replaces (chained r))) (sym c.order.view_is)
+          ∙ count-replaces o.client o.order_id o.replaces o.cancel
+          ∙ ap (λ (rs : List Replacing). length rs) (sym c.as_slice-pending_replaces.ensures);
       replaces = search rules;
     }
 

@@ -9,8 +9,15 @@ pub loop-preserved : goal.loop-preserved
 loop-preserved c =
     let more : c.push.new.self.items ≡ c.loop.ports.items ++ c.new.result ∷ [] = c.in_ok-push.ensures.items in
     record {
-      count = omega (arith, ap length more, length-append c.loop.ports.items (c.new.result ∷ []), c.loop.invariant.count);
+      count = omega (
+        arith,
+        ap length more,
+        length-append c.loop.ports.items
+            (c.new.result ∷ []),
+        c.loop.invariant.count,
+      );
       lines = λ i line e.
-          each-pushed (λ (l : PortLine). line_seen l ≡ opening_line) c.loop.ports.items c.new.result c.loop.invariant.lines c.new.ensures i line
+          each-pushed (λ (l : PortLine). line_seen l ≡ opening_line) c.loop.ports.items c.new.result
+          c.loop.invariant.lines c.new.ensures i line
           (subst (λ (ls : List PortLine). slice_get ls i ≡ Some line) more e);
     }

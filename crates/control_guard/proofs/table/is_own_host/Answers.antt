@@ -11,4 +11,5 @@ returns-in-Some c =
     c.names_one.ensures
     ∙ ap (list_any (λ v. bytes_eq c.in-Some.host.now v.items)) c.as_slice.ensures.value
     ∙ sym (any-seen (λ v. v.items) (bytes_eq c.in-Some.host.now) hosts)
-    ∙ ap (λ (o : Option (Bor (List ℕ))). spec.is_own_host (map (λ v. v.items) hosts) (option_map (λ t. t.now) o)) (sym c.in-Some.is)
+    ∙ ap (λ (o : Option (Bor (List ℕ))). spec.is_own_host (map (λ v. v.items) hosts) (option_map (λ t. t.now) o))
+    (sym c.in-Some.is)

@@ -11,4 +11,5 @@ returns-in-Some c =
     c.is_of_one.ensures
     ∙ ap (list_any (λ v. spec.is_origin_of v.items c.in-Some.origin.now)) c.as_slice.ensures.value
     ∙ sym (any-seen (λ v. v.items) (λ host. spec.is_origin_of host c.in-Some.origin.now) hosts)
-    ∙ ap (λ (o : Option (Bor (List ℕ))). spec.is_own_origin (map (λ v. v.items) hosts) (option_map (λ t. t.now) o)) (sym c.in-Some.is)
+    ∙ ap (λ (o : Option (Bor (List ℕ))). spec.is_own_origin (map (λ v. v.items) hosts) (option_map (λ t. t.now) o))
+    (sym c.in-Some.is)

@@ -20,10 +20,16 @@ write_day-requires g c =
 pub returns : goal.returns
 returns g c =
     let f = c.args.format in
-    let events : c.as_slice.result.now ≡ c.args.history.now.events = c.as_slice.ensures.value ∙ c.in_ok-events.ensures.events in
+    let events : c.as_slice.result.now ≡ c.args.history.now.events = c.as_slice.ensures.value
+    ∙ c.in_ok-events.ensures.events in
     let batches : map batch_seen c.as_slice-2.result.now ≡ c.args.history.now.batches =
     ap (λ (l : List Batch). map batch_seen l) c.as_slice-2.ensures.value ∙ c.in_ok-batches.ensures.batches in
-    let is : head_text f ++ turns_text f c.as_slice.result.now (map batch_seen c.as_slice-2.result.now) ≡ exported f c.args.history.now =
+    let is : head_text f ++ turns_text f c.as_slice.result.now (map batch_seen c.as_slice-2.result.now)
+    ≡ exported f c.args.history.now =
     ap (λ (l : List Event). head_text f ++ turns_text f l (map batch_seen c.as_slice-2.result.now)) events
     ∙ ap (λ (l : List law.Batch). head_text f ++ turns_text f c.args.history.now.events l) batches in
-    record { written = subst (λ (t : List ℕ). OnOk c.write_day.result (Appends (g.W.Write.contents c.args.output.now) (g.W.Write.contents c.write_day.new.output) t)) is c.write_day.ensures }
+    record {
+      written = subst (λ (t : List ℕ). OnOk c.write_day.result
+          (Appends (g.W.Write.contents c.args.output.now) (g.W.Write.contents c.write_day.new.output) t)) is
+          c.write_day.ensures;
+    }

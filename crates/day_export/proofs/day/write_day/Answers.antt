@@ -9,4 +9,6 @@ pub returns : goal.returns
 returns g c =
     let f = c.args.format in
     let turns = turns_text f c.args.events.now (map batch_seen c.args.batches.now) in
-    Appends-kept _ _ _ (head_text f ++ turns) (Appends-trans _ _ _ (head_text f) turns c.in_ok-write_head.ensures c.in_ok-write_turns.ensures) c.flush.ensures.bytes
+    Appends-kept _ _ _ (head_text f ++ turns)
+    (Appends-trans _ _ _ (head_text f) turns c.in_ok-write_head.ensures c.in_ok-write_turns.ensures)
+    c.flush.ensures.bytes

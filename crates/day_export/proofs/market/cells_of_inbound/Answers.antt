@@ -8,12 +8,15 @@ returns-in-Some c =
 
 pub returns-in-Some-get : goal.returns-in-Some-get
 returns-in-Some-get c =
-    rw (said-replace c.in-Some-get.m c.args.payload.now c.in-Some-get.ensures.same c.in_default.ensures.spelled.1) c.replaced.ensures
+    rw (said-replace c.in-Some-get.m c.args.payload.now c.in-Some-get.ensures.same c.in_default.ensures.spelled.1)
+    c.replaced.ensures
 
 pub returns-in-Some-get-2 : goal.returns-in-Some-get-2
 returns-in-Some-get-2 c =
-    rw (said-cancel c.in-Some-get-2.m c.args.payload.now c.in-Some-get-2.ensures.same c.in_default.ensures.spelled.1 c.in_default-get.ensures.spelled.1) c.counted.ensures
+    rw (said-cancel c.in-Some-get-2.m c.args.payload.now c.in-Some-get-2.ensures.same c.in_default.ensures.spelled.1
+    c.in_default-get.ensures.spelled.1) c.counted.ensures
 
 pub returns : goal.returns
 returns c =
-    rw (said-nothing c.args.payload.now c.in_default.ensures.spelled.1 c.in_default-get.ensures.spelled.1 c.in_default-get-2.ensures.spelled.1) (search rules)
+    rw (said-nothing c.args.payload.now c.in_default.ensures.spelled.1 c.in_default-get.ensures.spelled.1
+    c.in_default-get-2.ensures.spelled.1) (search rules)

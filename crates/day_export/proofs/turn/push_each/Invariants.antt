@@ -8,4 +8,5 @@ use Rattle.day_export.proofs.turn.push_each.Given as goal
 -- those of what was told so far
 abbrev pub invariant-loop-out : goal.invariant-loop-out
 invariant-loop-out l =
-    l.text.items ≡ l.initial.text.items ++ flat_map (λ (o : LinkOut). out_row l.format l.head (link_out_seen o)) (take l.out-index l.outs)
+    l.text.items ≡ l.initial.text.items ++ flat_map (λ (o : LinkOut). out_row l.format l.head (link_out_seen o))
+    (take l.out-index l.outs)

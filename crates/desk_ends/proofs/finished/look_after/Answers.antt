@@ -7,16 +7,20 @@ use Rattle.desk_ends.proofs.finished.look_after.Goals as goal
 
 pub returns-clause-looked : goal.returns-clause-looked
 returns-clause-looked c =
-    let looked = subst (λ (z : SeatState). SeatLooked z c.look_after.new.self) c.index_mut.ensures.value c.look_after.ensures.looked in
+    let looked = subst (λ (z : SeatState). SeatLooked z c.look_after.new.self) c.index_mut.ensures.value
+    c.look_after.ensures.looked in
     record {
       count = length-set c.args.seats.now.items c.args.at c.look_after.new.self;
-      each = each-set SeatLooked c.args.seats.now.items c.args.at c.index_mut.result.now c.look_after.new.self c.requires.inside seat-stays looked;
+      each = each-set SeatLooked c.args.seats.now.items c.args.at c.index_mut.result.now c.look_after.new.self
+          c.requires.inside seat-stays looked;
     }
 
 pub returns-clause-others : goal.returns-clause-others
-returns-clause-others c = λ k ne. get-set-other c.args.seats.now.items c.args.at k c.look_after.new.self (λ e. ne (ap Some (sym e)))
+returns-clause-others c = λ k ne. get-set-other c.args.seats.now.items c.args.at k c.look_after.new.self
+    (λ e. ne (ap Some (sym e)))
 
 pub returns-clause-all : goal.returns-clause-all
 returns-clause-all c = λ a at.
-    let same : c.look_after.new.self ≡ a = get-same _ c.args.at c.look_after.new.self a (get-set-same c.args.seats.now.items c.args.at c.look_after.new.self c.requires.inside) at in
+    let same : c.look_after.new.self ≡ a = get-same _ c.args.at c.look_after.new.self a
+    (get-set-same c.args.seats.now.items c.args.at c.look_after.new.self c.requires.inside) at in
     subst (λ (z : SeatState). z.gave ++ z.known ≡ all_sent c.args.put.now) same c.look_after.ensures.all

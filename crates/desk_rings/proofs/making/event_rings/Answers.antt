@@ -11,7 +11,11 @@ loop-source-preserved c =
     let pair = c.in_ok-producer.ensures.pair in
     let name : inlet_name ring ≡ seat_name c.new-in-loop-source.result = cc (c.new-in-loop-source.ensures.name) in
     rw (c.in_ok-push.ensures.items, c.in_ok-push_back.ensures.items)
-    (events-more c.args.sources.now c.loop-source.source-index c.source-item.result c.loop-source.rings.items c.loop-source.seats.items ring c.new-in-loop-source.result
+    (events-more c.args.sources.now c.loop-source.source-index c.source-item.result c.loop-source.rings.items
+    c.loop-source.seats.items ring c.new-in-loop-source.result
     c.loop-source-test.true c.source-item.is c.loop-source.invariant refl name
-    (c.in_ok-producer.ensures.producer.0, c.in_ok-producer.ensures.producer.1)
-    (c.new-in-loop-source.ensures.events.0 ∙ c.in_ok-producer.ensures.consumer.0, c.new-in-loop-source.ensures.events.1 ∙ c.in_ok-producer.ensures.consumer.1))
+    (c.in_ok-producer.ensures.producer.0, c.in_ok-producer.ensures.producer.1) (
+      c.new-in-loop-source.ensures.events.0 ∙ c.in_ok-producer.ensures.consumer.0,
+      c.new-in-loop-source.ensures.events.1
+          ∙ c.in_ok-producer.ensures.consumer.1,
+    ))

@@ -12,7 +12,13 @@ loop-to-preserved c =
     let pair = c.in_ok-producer.ensures.pair in
     let name : way_name c.new-in-loop-to.result ≡ outlet_name ring = cc (c.new-in-loop-to.ensures.name) in
     rw (c.in_ok-push.ensures.items, c.in_ok-push_back.ensures.items)
-    (lists-more c.args.recipients.now c.loop-to.to-index c.to-item.result c.loop-to.ways.items c.loop-to.rings.items c.new-in-loop-to.result ring
-    c.loop-to-test.true c.to-item.is c.loop-to.invariant (ap (λ (n : NamedOutlet). n.to) c.new-in-loop-to.ensures.name) name
-    (c.new-in-loop-to.ensures.lists.0 ∙ c.in_ok-producer.ensures.producer.0, c.new-in-loop-to.ensures.lists.1 ∙ c.in_ok-producer.ensures.producer.1, c.new-in-loop-to.ensures.whole)
+    (lists-more c.args.recipients.now c.loop-to.to-index c.to-item.result c.loop-to.ways.items c.loop-to.rings.items
+    c.new-in-loop-to.result ring
+    c.loop-to-test.true c.to-item.is c.loop-to.invariant
+    (ap (λ (n : NamedOutlet). n.to) c.new-in-loop-to.ensures.name) name (
+      c.new-in-loop-to.ensures.lists.0 ∙ c.in_ok-producer.ensures.producer.0,
+      c.new-in-loop-to.ensures.lists.1
+          ∙ c.in_ok-producer.ensures.producer.1,
+      c.new-in-loop-to.ensures.whole,
+    )
     (c.in_ok-producer.ensures.consumer.0, c.in_ok-producer.ensures.consumer.1))

@@ -5,10 +5,13 @@ use Rattle.desk_side.proofs.slots.pop_at.Goals as goal
 
 pub pop-requires : goal.pop-requires
 pop-requires c = record {
-  some = read-here (λ (z : SeatState). 0 < length z.known) c.args.seats.now.items c.args.place c.index_mut.result.now c.index_mut.result.now c.requires.inside c.index_mut.ensures.value c.requires.some;
+  some = read-here (λ (z : SeatState). 0 < length z.known) c.args.seats.now.items c.args.place c.index_mut.result.now
+      c.index_mut.result.now c.requires.inside c.index_mut.ensures.value c.requires.some;
 }
 
 pub returns : goal.returns
 returns c =
-    let gave = subst (λ (z : SeatState). SeatGave c.pop.result z c.pop.new.self) c.index_mut.ensures.value c.pop.ensures in
-    changes-set (SeatGave c.pop.result) c.args.seats.now.items c.args.place c.index_mut.result.now c.pop.new.self c.requires.inside gave
+    let gave = subst (λ (z : SeatState). SeatGave c.pop.result z c.pop.new.self) c.index_mut.ensures.value c.pop.ensures
+    in
+    changes-set (SeatGave c.pop.result) c.args.seats.now.items c.args.place c.index_mut.result.now c.pop.new.self
+    c.requires.inside gave

@@ -13,5 +13,6 @@ invariant-loop-i g l = record {
   clients : l.side.clients ≡ l.initial.side.clients;
   ports : l.side.ports ≡ l.initial.side.ports;
   begun : FirstBegun l.i l.initial.finished.items l.side.seats;
-  told : AreBegun l.initial.finished.items l.initial.side.seats → FirstTold l.i l.initial.finished.items l.side.seats l.side.ways;
+  told : AreBegun l.initial.finished.items l.initial.side.seats
+      → FirstTold l.i l.initial.finished.items l.side.seats l.side.ways;
 }

@@ -18,30 +18,50 @@ pub drain_end-requires : goal.drain_end-requires
 drain_end-requires g c =
     let one : Done = c.index.result.now in
     let inside : c.loop-i.i < length c.args.finished.now.items = omega arith in
-    let here : slice_get c.args.finished.now.items c.loop-i.i ≡ Some one = slice_get-get_or c.args.finished.now.items c.loop-i.i one inside ∙ ap Some (sym c.index.ensures) in
-    record { inside = λ k is. omega (arith, told-inside one c.args.side.now.seats c.args.side.now.ways k (c.requires.told c.loop-i.i one here) is, c.loop-i.invariant.shrinks.count) }
+    let here : slice_get c.args.finished.now.items c.loop-i.i ≡ Some one =
+    slice_get-get_or c.args.finished.now.items c.loop-i.i one inside ∙ ap Some (sym c.index.ensures) in
+    record {
+      inside = λ k is. omega (
+        arith,
+        told-inside one c.args.side.now.seats c.args.side.now.ways k
+            (c.requires.told c.loop-i.i one here) is,
+        c.loop-i.invariant.shrinks.count,
+      );
+    }
 
 pub loop-i-preserved : goal.loop-i-preserved
 loop-i-preserved g c =
     let one : Done = c.index.result.now in
     let inside : c.loop-i.i < length c.args.finished.now.items = omega arith in
-    let here : slice_get c.args.finished.now.items c.loop-i.i ≡ Some one = slice_get-get_or c.args.finished.now.items c.loop-i.i one inside ∙ ap Some (sym c.index.ensures) in
+    let here : slice_get c.args.finished.now.items c.loop-i.i ≡ Some one =
+    slice_get-get_or c.args.finished.now.items c.loop-i.i one inside ∙ ap Some (sym c.index.ensures) in
     record {
-      agrees = λ inlets outlets h. c.drain_end.ensures.agrees inlets outlets (c.loop-i.invariant.agrees inlets outlets h);
-      goes_on = goes-further c.args.recorded.now c.loop-i.recorded c.drain_end.new.recorded c.loop-i.invariant.goes_on c.drain_end.ensures.goes_on;
-      holds = holds-twice c.args.side.now.ways c.loop-i.side.ways c.drain_end.new.side.ways c.loop-i.invariant.holds c.drain_end.ensures.holds;
-      shrinks = shrinks-more c.args.side.now.seats c.loop-i.side.seats c.drain_end.new.side.seats c.loop-i.invariant.shrinks c.drain_end.ensures.shrinks;
-      none = one-drained c.loop-i.i c.args.finished.now.items one c.loop-i.side.seats c.drain_end.new.side.seats here c.drain_end.ensures.shrinks c.in_ok-drain_end.ensures.none c.loop-i.invariant.none;
+      agrees = λ inlets outlets h. c.drain_end.ensures.agrees inlets outlets
+          (c.loop-i.invariant.agrees inlets outlets h);
+      goes_on = goes-further c.args.recorded.now c.loop-i.recorded c.drain_end.new.recorded c.loop-i.invariant.goes_on
+          c.drain_end.ensures.goes_on;
+      holds = holds-twice c.args.side.now.ways c.loop-i.side.ways c.drain_end.new.side.ways c.loop-i.invariant.holds
+          c.drain_end.ensures.holds;
+      shrinks = shrinks-more c.args.side.now.seats c.loop-i.side.seats c.drain_end.new.side.seats
+          c.loop-i.invariant.shrinks c.drain_end.ensures.shrinks;
+      none = one-drained c.loop-i.i c.args.finished.now.items one c.loop-i.side.seats c.drain_end.new.side.seats here
+          c.drain_end.ensures.shrinks c.in_ok-drain_end.ensures.none c.loop-i.invariant.none;
     }
 
 pub returns-in_err-drain_end-clause-agrees : goal.returns-in_err-drain_end-clause-agrees
-returns-in_err-drain_end-clause-agrees g c = λ inlets outlets h. c.drain_end.ensures.agrees inlets outlets (c.loop-i.invariant.agrees inlets outlets h)
+returns-in_err-drain_end-clause-agrees g c =
+    λ inlets outlets h. c.drain_end.ensures.agrees inlets outlets (c.loop-i.invariant.agrees inlets outlets h)
 
 pub returns-clause-none : goal.returns-clause-none
-returns-clause-none g c = λ i f k at is. c.loop-i.invariant.none i f k (omega (arith, slice_get_within c.args.finished.now.items i f at)) at is
+returns-clause-none g c = λ i f k at is. c.loop-i.invariant.none i f k
+    (omega (arith, slice_get_within c.args.finished.now.items i f at)) at is
 
 pub returns-in_err-drain_end-clause-goes_on : goal.returns-in_err-drain_end-clause-goes_on
-returns-in_err-drain_end-clause-goes_on g c = goes-further c.args.recorded.now c.loop-i.recorded c.drain_end.new.recorded c.loop-i.invariant.goes_on c.drain_end.ensures.goes_on
+returns-in_err-drain_end-clause-goes_on g c =
+    goes-further c.args.recorded.now c.loop-i.recorded c.drain_end.new.recorded c.loop-i.invariant.goes_on
+    c.drain_end.ensures.goes_on
 
 pub returns-in_err-drain_end-clause-holds : goal.returns-in_err-drain_end-clause-holds
-returns-in_err-drain_end-clause-holds g c = holds-twice c.args.side.now.ways c.loop-i.side.ways c.drain_end.new.side.ways c.loop-i.invariant.holds c.drain_end.ensures.holds
+returns-in_err-drain_end-clause-holds g c =
+    holds-twice c.args.side.now.ways c.loop-i.side.ways c.drain_end.new.side.ways c.loop-i.invariant.holds
+    c.drain_end.ensures.holds

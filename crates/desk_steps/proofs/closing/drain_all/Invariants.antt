@@ -14,5 +14,6 @@ invariant-loop-i g l = record {
   goes_on : HistoryGoesOn l.initial.recorded l.recorded;
   holds : WaysHold l.initial.side.ways l.side.ways;
   shrinks : Shrinks l.initial.side.seats l.side.seats;
-  none : (i : ℕ) (f : Done) (k : ℕ) → i < l.i → slice_get l.finished.items i ≡ Some f → inlet_of f ≡ Some k → KnowsNone k l.side.seats;
+  none : (i : ℕ) (f : Done) (k : ℕ) → i < l.i → slice_get l.finished.items i ≡ Some f → inlet_of f ≡ Some k
+      → KnowsNone k l.side.seats;
 }

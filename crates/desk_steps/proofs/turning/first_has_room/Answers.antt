@@ -26,51 +26,73 @@ returns-then-has_room_everywhere-clause-room g c so =
     let now : SideState = c.has_room_everywhere.new.self in
     let client = client_for r.settings (event_seen e) (lists r.settings (turns r.kept)) in
     let port = port_for r.settings (event_seen e) in
-    has-room c.args.place r now e client port c.places_kept_free-kept_free.result (omega (arith, c.requires.inside, ap length c.has_room_everywhere.ensures.seats))
-    (at-same c.args.place (IsFirst e) c.args.side.now.seats now.seats c.has_room_everywhere.ensures.seats c.front.ensures) refl refl c.places_kept_free-kept_free.ensures
-    (everywhere c.places_kept_free-kept_free.result client port now.ways (c.has_room_everywhere.ensures.room c.if-has_room_everywhere.true))
+    has-room c.args.place r now e client port c.places_kept_free-kept_free.result
+    (omega (arith, c.requires.inside, ap length c.has_room_everywhere.ensures.seats))
+    (at-same c.args.place (IsFirst e) c.args.side.now.seats now.seats c.has_room_everywhere.ensures.seats
+    c.front.ensures) refl refl c.places_kept_free-kept_free.ensures
+    (everywhere c.places_kept_free-kept_free.result client port now.ways
+    (c.has_room_everywhere.ensures.room c.if-has_room_everywhere.true))
 
 pub returns-then-has_room_everywhere-clause-cuts : goal.returns-then-has_room_everywhere-clause-cuts
 returns-then-has_room_everywhere-clause-cuts g c so t x =
-    cuts-nowhere c.places_kept_free-kept_free.result c.args.place (record { recorded = c.args.recorded.now; side = c.has_room_everywhere.new.self }) t x (c.has_room_everywhere.ensures.room c.if-has_room_everywhere.true)
+    cuts-nowhere c.places_kept_free-kept_free.result c.args.place
+    (record { recorded = c.args.recorded.now; side = c.has_room_everywhere.new.self }) t x
+    (c.has_room_everywhere.ensures.room c.if-has_room_everywhere.true)
 
 pub front-requires-2 : goal.front-requires-2
 front-requires-2 g c =
-    let own = owns-same c.args.place c.args.side.now.seats c.has_room_everywhere.new.self.seats c.has_room_everywhere.ensures.seats c.requires.own in
+    let own = owns-same c.args.place c.args.side.now.seats c.has_room_everywhere.new.self.seats
+    c.has_room_everywhere.ensures.seats c.requires.own in
     record {
       inside = omega (arith, c.requires.inside, ap length c.has_room_everywhere.ensures.seats);
       some = λ a at. first-some (own a at).0 a (own a at).1;
     }
 
 pub returns-clause-ways : goal.returns-clause-ways
-returns-clause-ways g c = ways-twice c.args.side.now.ways c.has_room_everywhere.new.self.ways c.has_room.new.self.ways c.has_room_everywhere.ensures.ways c.has_room.ensures.ways
+returns-clause-ways g c = ways-twice c.args.side.now.ways c.has_room_everywhere.new.self.ways c.has_room.new.self.ways
+    c.has_room_everywhere.ensures.ways c.has_room.ensures.ways
 
 pub returns-clause-room : goal.returns-clause-room
 returns-clause-room g c so =
     let seats = c.has_room.ensures.seats ∙ c.has_room_everywhere.ensures.seats in
     let e : Event = c.front-2.result.now in
-    let first = at-same c.args.place (IsFirst e) c.has_room_everywhere.new.self.seats c.has_room.new.self.seats c.has_room.ensures.seats c.front-2.ensures in
-    let before = at-same c.args.place (IsFirst c.front.result.now) c.args.side.now.seats c.has_room.new.self.seats seats c.front.ensures in
+    let first = at-same c.args.place (IsFirst e) c.has_room_everywhere.new.self.seats c.has_room.new.self.seats
+    c.has_room.ensures.seats c.front-2.ensures in
+    let before = at-same c.args.place (IsFirst c.front.result.now) c.args.side.now.seats c.has_room.new.self.seats seats
+    c.front.ensures in
     let inside : c.args.place < length c.has_room.new.self.seats = omega (arith, c.requires.inside, ap length seats) in
-    let same : c.front.result.now ≡ e = firsts-same c.args.place c.has_room.new.self.seats c.front.result.now e inside before first in
-    has-room c.args.place c.args.recorded.now c.has_room.new.self e c.targets-targets.result.client c.targets-targets.result.port c.places_kept_free-kept_free.result inside first
-    c.targets-targets.ensures.client c.targets-targets.ensures.port (c.places_kept_free-kept_free.ensures ∙ ap (λ (z : Event). kept_free (event_seen z)) same) (c.has_room.ensures.room so)
+    let same : c.front.result.now ≡ e = firsts-same c.args.place c.has_room.new.self.seats c.front.result.now e inside
+    before first in
+    has-room c.args.place c.args.recorded.now c.has_room.new.self e c.targets-targets.result.client
+    c.targets-targets.result.port c.places_kept_free-kept_free.result inside first
+    c.targets-targets.ensures.client c.targets-targets.ensures.port
+    (c.places_kept_free-kept_free.ensures ∙ ap (λ (z : Event). kept_free (event_seen z)) same)
+    (c.has_room.ensures.room so)
 
 pub returns-clause-cuts : goal.returns-clause-cuts
 returns-clause-cuts g c so t x =
     let e : Event = c.front-2.result.now in
-    cuts-none c.places_kept_free-kept_free.result c.args.place (record { recorded = c.args.recorded.now; side = c.has_room.new.self }) t x c.targets-targets.result.client c.targets-targets.result.port e
-    (at-same c.args.place (IsFirst e) c.has_room_everywhere.new.self.seats c.has_room.new.self.seats c.has_room.ensures.seats c.front-2.ensures)
+    cuts-none c.places_kept_free-kept_free.result c.args.place
+    (record { recorded = c.args.recorded.now; side = c.has_room.new.self }) t x c.targets-targets.result.client
+    c.targets-targets.result.port e
+    (at-same c.args.place (IsFirst e) c.has_room_everywhere.new.self.seats c.has_room.new.self.seats
+    c.has_room.ensures.seats c.front-2.ensures)
     c.targets-targets.ensures.named (c.has_room.ensures.room so)
 
 pub returns-clause-held : goal.returns-clause-held
 returns-clause-held g c isnt =
     let seats = c.has_room.ensures.seats ∙ c.has_room_everywhere.ensures.seats in
     let e : Event = c.front-2.result.now in
-    let first = at-same c.args.place (IsFirst e) c.has_room_everywhere.new.self.seats c.has_room.new.self.seats c.has_room.ensures.seats c.front-2.ensures in
-    let before = at-same c.args.place (IsFirst c.front.result.now) c.args.side.now.seats c.has_room.new.self.seats seats c.front.ensures in
+    let first = at-same c.args.place (IsFirst e) c.has_room_everywhere.new.self.seats c.has_room.new.self.seats
+    c.has_room.ensures.seats c.front-2.ensures in
+    let before = at-same c.args.place (IsFirst c.front.result.now) c.args.side.now.seats c.has_room.new.self.seats seats
+    c.front.ensures in
     let inside : c.args.place < length c.has_room.new.self.seats = omega (arith, c.requires.inside, ap length seats) in
-    let same : c.front.result.now ≡ e = firsts-same c.args.place c.has_room.new.self.seats c.front.result.now e inside before first in
-    waits c.args.place c.args.recorded.now c.has_room.new.self e c.targets-targets.result.client c.targets-targets.result.port c.places_kept_free-kept_free.result inside first
+    let same : c.front.result.now ≡ e = firsts-same c.args.place c.has_room.new.self.seats c.front.result.now e inside
+    before first in
+    waits c.args.place c.args.recorded.now c.has_room.new.self e c.targets-targets.result.client
+    c.targets-targets.result.port c.places_kept_free-kept_free.result inside first
     (owns-same c.args.place c.args.side.now.seats c.has_room.new.self.seats seats c.requires.own)
-    c.targets-targets.ensures.client c.targets-targets.ensures.port (c.places_kept_free-kept_free.ensures ∙ ap (λ (z : Event). kept_free (event_seen z)) same) (c.has_room.ensures.full isnt)
+    c.targets-targets.ensures.client c.targets-targets.ensures.port
+    (c.places_kept_free-kept_free.ensures ∙ ap (λ (z : Event). kept_free (event_seen z)) same)
+    (c.has_room.ensures.full isnt)

@@ -11,4 +11,5 @@ returns-else-is_empty-clause-ended c = λ yes. ended_by_back c.args.text.now (sy
 
 pub returns-else-is_empty-clause-fields : goal.returns-else-is_empty-clause-fields
 returns-else-is_empty-clause-fields c = λ fields e.
-    c.ends_with.ensures.value ∙ fields_end c.args.text.now fields e (some (length c.args.text.now) (sym c.is_empty.ensures ∙ c.if-is_empty.false))
+    c.ends_with.ensures.value ∙ fields_end c.args.text.now fields e
+    (some (length c.args.text.now) (sym c.is_empty.ensures ∙ c.if-is_empty.false))

@@ -9,7 +9,8 @@ returns-then-marks-eq0 c =
     let bytes = take 16 (drop c.args.at c.args.text.now) in
     let long = length-chunk c.args.at 16 c.args.text.now c.requires in
     let marks = bitmask_splat w8 eqb bytes 16 1 long (omega arith) in
-    soh_after c.args.text.now c.args.at c.requires (leading_from_mask_l (λ byte. eqb byte 1) bytes (sym marks ∙ c.if-marks-eq0.true) ∙ long)
+    soh_after c.args.text.now c.args.at c.requires
+    (leading_from_mask_l (λ byte. eqb byte 1) bytes (sym marks ∙ c.if-marks-eq0.true) ∙ long)
 
 pub returns-else-marks-eq0 : goal.returns-else-marks-eq0
 returns-else-marks-eq0 c =

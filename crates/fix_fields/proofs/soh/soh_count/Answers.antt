@@ -7,12 +7,23 @@ pub overflow_add-count : goal.overflow_add-count
 overflow_add-count c =
     let text = c.args.text.now in
     let more = sohs_more text c.loop-at.at 16 in
-    omega (arith, c.loop-at.invariant.counted, c.soh_count_of_lanes-count.ensures, more, few_sohs text (c.loop-at.at + 16))
+    omega (
+      arith,
+      c.loop-at.invariant.counted,
+      c.soh_count_of_lanes-count.ensures,
+      more,
+      few_sohs text
+          (c.loop-at.at + 16),
+    )
 
 pub loop-at-preserved : goal.loop-at-preserved
 loop-at-preserved c =
     let more = sohs_more c.args.text.now c.loop-at.at 16 in
-    record { within = omega arith; counted = omega (arith, c.loop-at.invariant.counted, c.soh_count_of_lanes-count.ensures, more) }
+    record {
+      within = omega arith;
+      counted = omega
+          (arith, c.loop-at.invariant.counted, c.soh_count_of_lanes-count.ensures, more);
+    }
 
 pub returns : goal.returns
 returns c =

@@ -8,10 +8,13 @@ use Rattle.fix_fields.proofs.Splitting.{none_stands, still_remaining, read_more}
 use Rattle.fix_fields.proofs.view.are_fields.Goals as goal
 
 pub returns-then-not-is_ended : goal.returns-then-not-is_ended
-returns-then-not-is_ended c = ap (λ (f : Option (List Field)). is_some f) (sym (not_ended c.args.text.now c.is_ended.result c.if-not-is_ended.true c.is_ended.ensures.fields))
+returns-then-not-is_ended c = ap (λ (f : Option (List Field)). is_some f)
+    (sym (not_ended c.args.text.now c.is_ended.result c.if-not-is_ended.true c.is_ended.ensures.fields))
 
 pub returns-in_default : goal.returns-in_default
-returns-in_default c = ap (λ (f : Option (List Field)). is_some f) (sym (fields_of-none c.args.text.now (none_stands c.args.text.now c.loop-at.at c.loop-at-test.true c.loop-at.invariant.remaining c.in_default.ensures)))
+returns-in_default c = ap (λ (f : Option (List Field)). is_some f)
+    (sym (fields_of-none c.args.text.now (none_stands c.args.text.now c.loop-at.at c.loop-at-test.true
+    c.loop-at.invariant.remaining c.in_default.ensures)))
 
 pub loop-at-preserved : goal.loop-at-preserved
 loop-at-preserved c =

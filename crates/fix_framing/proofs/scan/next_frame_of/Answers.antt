@@ -4,9 +4,11 @@ use Rattle.fix_framing.proofs.Parts.{on_skipped}
 use Rattle.fix_framing.proofs.scan.next_frame_of.Goals as goal
 
 pub loop-at-preserved : goal.loop-at-preserved
-loop-at-preserved c = on_skipped c.args.text.now [] c.loop-at.at c.loop-at.at c.loop-at.invariant ((rw c.in-Skipped.is at c.in_ok-place_of.ensures) ∙ ap place c.split_at.ensures.back)
+loop-at-preserved c = on_skipped c.args.text.now [] c.loop-at.at c.loop-at.at c.loop-at.invariant
+    ((rw c.in-Skipped.is at c.in_ok-place_of.ensures) ∙ ap place c.split_at.ensures.back)
 
 pub loop-at-smaller : goal.loop-at-smaller
 loop-at-smaller c =
-    let on = on_skipped c.args.text.now [] c.loop-at.at c.loop-at.at c.loop-at.invariant ((rw c.in-Skipped.is at c.in_ok-place_of.ensures) ∙ ap place c.split_at.ensures.back) in
+    let on = on_skipped c.args.text.now [] c.loop-at.at c.loop-at.at c.loop-at.invariant
+    ((rw c.in-Skipped.is at c.in_ok-place_of.ensures) ∙ ap place c.split_at.ensures.back) in
     omega (arith, on.within)

@@ -5,4 +5,5 @@ use Rattle.fix_framing.proofs.writing.front_of_hundreds.Goals as goal
 
 pub returns : goal.returns
 returns c =
-    rw (c.last_digit.ensures, c.last_digit-2.ensures, c.last_digit-3.ensures) (ap (λ (ds : List ℕ). head ds) (sym (three_digits c.args.size c.requires.0 c.requires.1)))
+    rw (c.last_digit.ensures, c.last_digit-2.ensures, c.last_digit-3.ensures)
+    (ap (λ (ds : List ℕ). head ds) (sym (three_digits c.args.size c.requires.0 c.requires.1)))

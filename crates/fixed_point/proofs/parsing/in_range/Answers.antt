@@ -2,7 +2,8 @@ use Rattle.std.proofs.Common.{◌≡◌, true, sym, ◌∙◌, arith}
 use Rattle.std.proofs.lemmas.Bool.{false≢true}
 use Rattle.fixed_point.proofs.Amounts.{above_most, below_least, below_zero, in_range}
 use Rattle.fixed_point.proofs.parsing.in_range.Goals as goal
-use Rattle.fixed_point.proofs.parsing.in_range.Goals.{else-negative-via-then-negative+else-size-gt0, else-negative-via-else-negative}
+use Rattle.fixed_point.proofs.parsing.in_range.Goals.{else-negative-via-then-negative+else-size-gt0}
+use Rattle.fixed_point.proofs.parsing.in_range.Goals.{else-negative-via-else-negative}
 
 pub returns-then-size-gt0-clause-value : goal.returns-then-size-gt0-clause-value
 returns-then-size-gt0-clause-value c =

@@ -6,6 +6,7 @@ use Rattle.gate_audit.proofs.accounts.readings_in.Given as goal
 
 abbrev pub invariant-loop-place : goal.invariant-loop-place
 invariant-loop-place l = record {
-  readings : (events : List Event) → length l.batches ≡ length events → l.readings.items ≡ read.readings l.place (history events l.batches);
+  readings : (events : List Event) → length l.batches ≡ length events
+      → l.readings.items ≡ read.readings l.place (history events l.batches);
   held : (events : List Event) → length l.batches ≡ length events → read.AllReadHeld l.place (history events l.batches);
 }

@@ -23,15 +23,27 @@ loop-i-preserved c =
     let long : length (history (take i es) (take i bs)) ≡ i = history-length es bs i same c.loop-i.auto.i-end in
     let e = c.index-events-i.result in
     let b = c.index-batches-i.result in
-    let more : history (take (i + 1) es) (take (i + 1) bs) ≡ turn_of e b ∷ history (take i es) (take i bs) = history-more es bs i e b same c.loop-i-test.true c.index-events-i.is c.index-batches-i.is in
+    let more : history (take (i + 1) es) (take (i + 1) bs) ≡ turn_of e b ∷ history (take i es) (take i bs) =
+    history-more es bs i e b same c.loop-i-test.true c.index-events-i.is c.index-batches-i.is in
     elim c.if-i-lt-MOST_EVENTS.branch [
       | then-i-lt-MOST_EVENTS+in_ok-step w ↦ record {
-        again = rw (w.again-is, more, again-more terms p e b (history (take i es) (take i bs)) (omega (arith, long, w.if-i-lt-MOST_EVENTS.true)))
-            (w.in_ok-step.ensures.again terms (called_again terms p (history (take i es) (take i bs))) c.loop-i.invariant.again);
+        again = rw (
+          w.again-is,
+          more,
+          again-more terms p e b (history (take i es) (take i bs))
+              (omega (arith, long, w.if-i-lt-MOST_EVENTS.true)),
+        )
+            (w.in_ok-step.ensures.again terms (called_again terms p (history (take i es) (take i bs)))
+            c.loop-i.invariant.again);
         next = rw w.again-is (omega (arith, w.in_ok-step.ensures.next, c.loop-i.invariant.next));
       }
       | else-i-lt-MOST_EVENTS w ↦ record {
-        again = rw (w.again-is, more, again-past terms p e b (history (take i es) (take i bs)) (omega (arith, long, w.if-i-lt-MOST_EVENTS.false))) c.loop-i.invariant.again;
+        again = rw (
+          w.again-is,
+          more,
+          again-past terms p e b (history (take i es) (take i bs))
+              (omega (arith, long, w.if-i-lt-MOST_EVENTS.false)),
+        ) c.loop-i.invariant.again;
         next = rw w.again-is (omega (arith, c.loop-i.invariant.next));
       }
     ]
@@ -49,4 +61,6 @@ returns-clause-run c holds =
     ∙ ap (λ (xs : List Batch). history es xs) (take_all i bs (omega (arith, same, c.loop-i-test.false))) in
     c.loop-i.invariant.again.handled
     ∙ (ap (λ (h : History). reverse (called_again (port_terms s p) p h).handled) whole
-    ∙ ap reverse (sym (handled-again ends_by_close s p (has-of p (length s.ports) (omega (arith, c.number.ensures.value, c.number.ensures.from_one)) c.requires.known) (history es bs) holds.run)))
+    ∙ ap reverse (sym (handled-again ends_by_close s p
+    (has-of p (length s.ports) (omega (arith, c.number.ensures.value, c.number.ensures.from_one)) c.requires.known)
+    (history es bs) holds.run)))

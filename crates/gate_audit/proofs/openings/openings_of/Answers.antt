@@ -10,8 +10,12 @@ use Rattle.gate_audit.proofs.openings.openings_of.Goals as goal
 pub returns-in_err-hear_all-clause-large : goal.returns-in_err-hear_all-clause-large
 returns-in_err-hear_all-clause-large c err has =
     let before : List SaidToClient = reverse (said_by_batches (take c.loop-batch.batch-index c.args.batches.now)) in
-    let next = has-next-batch c.args.batches.now c.loop-batch.batch-index c.batch-item.result c.in-Some.client c.loop-batch-test.true c.batch-item.is c.in-Some.is has in
-    let own_error : IsErrOf {T = Unit {0}} {E = ReadingFault} (Err c.in_err-hear_all.field-0.0) TooLarge = search (rules, c.from_residual.ensures, err) in
+    let next = has-next-batch c.args.batches.now c.loop-batch.batch-index c.batch-item.result c.in-Some.client
+    c.loop-batch-test.true c.batch-item.is c.in-Some.is has in
+    let own_error : IsErrOf {T = Unit {0}} {E = ReadingFault} (Err c.in_err-hear_all.field-0.0) TooLarge =
+    search (rules, c.from_residual.ensures, err) in
     c.in_err-hear_all.ensures.large before c.loop-batch.invariant own_error
-    (subst (λ (n : ℕ). HasTokenNumbers (reverse (map (said_to n) c.deref.result.now) ++ before)) (sym c.number.ensures.value)
-    (subst (λ (rs : List Message). HasTokenNumbers (reverse (map (said_to c.in-Some.client) rs) ++ before)) (sym c.deref.ensures.value) next))
+    (subst (λ (n : ℕ). HasTokenNumbers (reverse (map (said_to n) c.deref.result.now) ++ before))
+    (sym c.number.ensures.value)
+    (subst (λ (rs : List Message). HasTokenNumbers (reverse (map (said_to c.in-Some.client) rs) ++ before))
+    (sym c.deref.ensures.value) next))

@@ -6,6 +6,9 @@ use Rattle.gate_audit.proofs.pairs.pair_all.Given as goal
 
 abbrev pub invariant-loop-opening : goal.invariant-loop-opening
 invariant-loop-opening l = record {
-  paired : (sent : List Message) → HasReports sent l.reports → l.pairs.items ≡ l.fn.pairs.items ++ map (read.pair_in (reverse sent) (reverse l.handled)) (read.orders_of l.client (take l.opening-index l.openings));
-  held : (sent : List Message) → HasReports sent l.reports → read.AreHeld (reverse sent) (read.orders_of l.client (take l.opening-index l.openings));
+  paired : (sent : List Message) → HasReports sent l.reports
+      → l.pairs.items ≡ l.fn.pairs.items ++ map (read.pair_in (reverse sent) (reverse l.handled))
+      (read.orders_of l.client (take l.opening-index l.openings));
+  held : (sent : List Message) → HasReports sent l.reports
+      → read.AreHeld (reverse sent) (read.orders_of l.client (take l.opening-index l.openings));
 }

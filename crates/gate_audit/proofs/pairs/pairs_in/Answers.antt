@@ -24,32 +24,43 @@ loop-place-preserved c =
     let es = c.args.events.now in
     let bs = c.args.batches.now in
     let n = c.loop-place.place in
-    let inside : n < length s.clients = omega (arith, c.loop-place-test.true, c.loop-place.auto.place-end, ap length c.clients-place-end.ensures.clients) in
+    let inside : n < length s.clients = omega
+    (arith, c.loop-place-test.true, c.loop-place.auto.place-end, ap length c.clients-place-end.ensures.clients) in
     let port : c.new-port.result ≡ port_of s (n + 1) =
-    c.new-port.ensures ∙ ap (λ (x : ClientSettings). x.terms.port) c.own.view_is ∙ ap (λ (x : ClientSettings). x.terms.port) c.index-clients-place.is
+    c.new-port.ensures ∙ ap (λ (x : ClientSettings). x.terms.port) c.own.view_is
+    ∙ ap (λ (x : ClientSettings). x.terms.port) c.index-clients-place.is
     ∙ ap (λ (xs : List ClientSettings). (get_or xs n c.index-clients-place.result).terms.port) c.clients.ensures.clients
     ∙ sym (ap (λ (t : Terms). t.port) (terms-at s.clients n c.index-clients-place.result inside)) in
     let same : length bs ≡ length es = c.requires.count in
     let has : HasReports (reports_to (n + 1) bs) c.in_ok-reports.reports =
-    subst (λ (k : ℕ). HasReports (reports_to k bs) c.in_ok-reports.reports) c.at_place-number.ensures c.in_ok-reports.ensures in
+    subst (λ (k : ℕ). HasReports (reports_to k bs) c.in_ok-reports.reports) c.at_place-number.ensures
+    c.in_ok-reports.ensures in
     let openings : c.deref.result.now ≡ reverse (read.opened_orders (reverse (read.said_by_batches bs))) =
     c.deref.ensures.value ∙ c.in_ok-openings.ensures.opened in
     record {
       pairs =
           c.in_ok-pair_all.ensures.paired (reports_to (n + 1) bs) has
-          ∙ pairs-more s n c.new-port.result c.loop-place.pairs.items (reports_to (n + 1) bs) c.in_ok-handled.handled c.deref.result.now es bs
+          ∙ pairs-more s n c.new-port.result c.loop-place.pairs.items
+          (reports_to (n + 1) bs) c.in_ok-handled.handled c.deref.result.now es bs
           same refl port (c.in_ok-handled.ensures ∙ c.in_ok-heard.ensures.read) openings c.loop-place.invariant.pairs;
       held =
-          known-more (λ (k : ℕ). read.AreHeld (told_by_batches k (history es bs)) (reverse (read.orders_of k (read.opened_orders (read.said_to_clients (history es bs)))))) n c.loop-place.invariant.held
-          (held-now es bs (n + 1) same (reports_to (n + 1) bs) c.deref.result.now refl openings (c.in_ok-pair_all.ensures.held (reports_to (n + 1) bs) has));
+          known-more (λ (k : ℕ). read.AreHeld (told_by_batches k (history es bs))
+          (reverse (read.orders_of k (read.opened_orders (read.said_to_clients (history es bs)))))) n
+          c.loop-place.invariant.held
+          (held-now es bs (n + 1) same (reports_to (n + 1) bs) c.deref.result.now refl openings
+          (c.in_ok-pair_all.ensures.held (reports_to (n + 1) bs) has));
     }
 
 pub returns-clause-run : goal.returns-clause-run
 returns-clause-run c holds =
     let s : Settings = c.args.settings.now in
-    let clients : length c.clients-place-end.result.now ≡ length s.clients = ap length c.clients-place-end.ensures.clients in
-    let all : c.loop-place.place ≡ length s.clients = omega (arith, clients, c.loop-place-test.false, c.loop-place.auto.place-end) in
-    let ports : All (IsOnPort (length s.ports)) s.clients = subst (λ (cs : List ClientSettings). All (IsOnPort (length s.ports)) cs) c.clients-place-end.ensures.clients c.clients-place-end.ensures.ports in
+    let clients : length c.clients-place-end.result.now ≡ length s.clients =
+    ap length c.clients-place-end.ensures.clients in
+    let all : c.loop-place.place ≡ length s.clients =
+    omega (arith, clients, c.loop-place-test.false, c.loop-place.auto.place-end) in
+    let ports : All (IsOnPort (length s.ports)) s.clients =
+    subst (λ (cs : List ClientSettings). All (IsOnPort (length s.ports)) cs) c.clients-place-end.ensures.clients
+    c.clients-place-end.ensures.ports in
     c.loop-place.invariant.pairs ∙ ap (for_clients (read.pairs_of s (history c.args.events.now c.args.batches.now))) all
     ∙ pairs-same ends_by_close s (history c.args.events.now c.args.batches.now) ports holds
 
@@ -59,18 +70,25 @@ returns-clause-held c =
     let es = c.args.events.now in
     let bs = c.args.batches.now in
     let same : length bs ≡ length es = c.requires.count in
-    let clients : length c.clients-place-end.result.now ≡ length s.clients = ap length c.clients-place-end.ensures.clients in
-    let all : c.loop-place.place ≡ length s.clients = omega (arith, clients, c.loop-place-test.false, c.loop-place.auto.place-end) in
-    let tokens : read.HasTokenNumbers (reverse (read.said_by_batches bs)) = c.in_ok-openings.ensures.tokens in
-    (λ k some known. c.loop-place.invariant.held k some (omega (arith, known, all)), omega (arith, tokens, same-tokens es bs same))
+    let clients : length c.clients-place-end.result.now ≡ length s.clients =
+    ap length c.clients-place-end.ensures.clients in
+    let all : c.loop-place.place ≡ length s.clients =
+    omega (arith, clients, c.loop-place-test.false, c.loop-place.auto.place-end) in
+    let tokens : read.HasTokenNumbers (reverse (read.said_by_batches bs)) = c.in_ok-openings.ensures.tokens in (
+      λ k some known. c.loop-place.invariant.held k some (omega (arith, known, all)),
+      omega
+          (arith, tokens, same-tokens es bs same),
+    )
 
 pub returns-in_err-openings-clause-large : goal.returns-in_err-openings-clause-large
 returns-in_err-openings-clause-large c err held tokens =
     let es = c.args.events.now in
     let bs = c.args.batches.now in
     let same : length bs ≡ length es = c.requires.count in
-    let by_batches : read.HasTokenNumbers (reverse (read.said_by_batches bs)) = omega (arith, tokens, same-tokens es bs same) in
-    let own_error : IsErrOf {E = ReadingFault} (Err c.in_err-openings.field-0.0) TooLarge = search (rules, c.from_residual.ensures, err) in
+    let by_batches : read.HasTokenNumbers (reverse (read.said_by_batches bs)) =
+    omega (arith, tokens, same-tokens es bs same) in
+    let own_error : IsErrOf {E = ReadingFault} (Err c.in_err-openings.field-0.0) TooLarge =
+    search (rules, c.from_residual.ensures, err) in
     c.in_err-openings.ensures.large own_error by_batches
 
 pub returns-in_err-pair_all-clause-large : goal.returns-in_err-pair_all-clause-large
@@ -79,12 +97,16 @@ returns-in_err-pair_all-clause-large c err held tokens =
     let es = c.args.events.now in
     let bs = c.args.batches.now in
     let n = c.loop-place.place in
-    let inside : n < length s.clients = omega (arith, c.loop-place-test.true, c.loop-place.auto.place-end, ap length c.clients-place-end.ensures.clients) in
+    let inside : n < length s.clients = omega
+    (arith, c.loop-place-test.true, c.loop-place.auto.place-end, ap length c.clients-place-end.ensures.clients) in
     let same : length bs ≡ length es = c.requires.count in
     let has : HasReports (reports_to (n + 1) bs) c.in_ok-reports.reports =
-    subst (λ (k : ℕ). HasReports (reports_to k bs) c.in_ok-reports.reports) c.at_place-number.ensures c.in_ok-reports.ensures in
+    subst (λ (k : ℕ). HasReports (reports_to k bs) c.in_ok-reports.reports) c.at_place-number.ensures
+    c.in_ok-reports.ensures in
     let openings : c.deref.result.now ≡ reverse (read.opened_orders (reverse (read.said_by_batches bs))) =
     c.deref.ensures.value ∙ c.in_ok-openings.ensures.opened in
-    let own_error : IsErrOf {T = Unit {0}} {E = ReadingFault} (Err c.in_err-pair_all.field-0.0) TooLarge = search (rules, c.from_residual-in_err-pair_all.ensures, err) in
+    let own_error : IsErrOf {T = Unit {0}} {E = ReadingFault} (Err c.in_err-pair_all.field-0.0) TooLarge =
+    search (rules, c.from_residual-in_err-pair_all.ensures, err) in
     c.in_err-pair_all.ensures.large own_error (reports_to (n + 1) bs) has
-    (held-then es bs (n + 1) same (reports_to (n + 1) bs) c.deref.result.now refl openings (held (n + 1) (omega arith) (omega (arith, inside))))
+    (held-then es bs (n + 1) same (reports_to (n + 1) bs) c.deref.result.now refl openings
+    (held (n + 1) (omega arith) (omega (arith, inside))))

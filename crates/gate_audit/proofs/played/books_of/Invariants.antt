@@ -7,4 +7,5 @@ use Rattle.gate_audit.specs.Played as played
 use Rattle.gate_audit.proofs.played.books_of.Given as goal
 
 abbrev pub invariant-loop-place : goal.invariant-loop-place
-invariant-loop-place l = (x : World) → IsAsWorld l.settings x l.world → l.books.items ≡ for_clients (played.books_of l.settings x) l.place
+invariant-loop-place l = (x : World) → IsAsWorld l.settings x l.world
+    → l.books.items ≡ for_clients (played.books_of l.settings x) l.place

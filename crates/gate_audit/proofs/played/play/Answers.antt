@@ -18,9 +18,11 @@ returns c =
     let holds : Holds s is.x.history = core-holds s is.x.history c.in_ok-world.world.core is.same.core in
     let history : turns c.into_history-history.result ≡ is.x.history = c.into_history-history.ensures s is.x is.same in
     let rows : c.in_ok-books.books.items ≡ books s is.x = c.in_ok-books.ensures is.x is.same in
-    let keeps : KeepsPromises s is.x = c.promises.ensures steps is.x is.leads holds (table-run s is.x.history c.in_ok-world.world.core is.same.core) in
+    let keeps : KeepsPromises s is.x = c.promises.ensures steps is.x is.leads holds
+    (table-run s is.x.history c.in_ok-world.world.core is.same.core) in
     let accepted : c.in_ok-pairs.pairs.items ≡ accepted_pairs s is.x.history =
-    c.in_ok-pairs.ensures.run (subst (λ (h : History). Holds s h) (sym history) holds) ∙ ap (accepted_pairs s) history in
+    c.in_ok-pairs.ensures.run (subst (λ (h : History). Holds s h) (sym history) holds) ∙ ap (accepted_pairs s) history
+    in
     record {
       w = is.x;
       leads = is.leads;

@@ -19,9 +19,11 @@ loop-opening-preserved c =
       | then-opening-client+in_ok-push w ↦
           let own : (o.client == c.args.client) ≡ true = search (rules, w.if-opening-client, c.opening.view_is) in
           λ s x same has.
-          ap (λ v. v.items) w.books-is ∙ (w.in_ok-push.ensures.items ∙ (ap (λ (ys : List BookRow). ys ++ w.row.result ∷ []) (c.loop-opening.invariant s x same has)
+          ap (λ v. v.items) w.books-is ∙ (w.in_ok-push.ensures.items
+          ∙ (ap (λ (ys : List BookRow). ys ++ w.row.result ∷ []) (c.loop-opening.invariant s x same has)
           ∙ made-more (book_of x c.args.port) p os i o old w.row.result c.loop-opening-test.true c.opening-item.is own
-          (w.row.ensures.row s x same has ∙ ap (row (x.markets c.args.port).book.book) (w.bytes.ensures.bytes ∙ ap (λ (z : OpenedOrder). z.root) c.opening.view_is))))
+          (w.row.ensures.row s x same has ∙ ap (row (x.markets c.args.port).book.book)
+          (w.bytes.ensures.bytes ∙ ap (λ (z : OpenedOrder). z.root) c.opening.view_is))))
       | else-opening-client w ↦
           let other : (o.client == c.args.client) ≡ false = search (rules, w.if-opening-client, c.opening.view_is) in
           λ s x same has.

@@ -9,4 +9,5 @@ use Rattle.gate_audit.proofs.played.push_rows.Given as goal
 
 abbrev pub invariant-loop-opening : goal.invariant-loop-opening
 invariant-loop-opening l = (s : Settings) (x : World) → IsAsWorld s x l.world → has_port s l.port ≡ true
-    → l.books.items ≡ l.fn.books.items ++ map (played.book_of x l.port) (read.orders_of l.client (take l.opening-index l.openings))
+    → l.books.items ≡ l.fn.books.items ++ map (played.book_of x l.port)
+    (read.orders_of l.client (take l.opening-index l.openings))

@@ -7,13 +7,24 @@ use Rattle.gate_core.proofs.rows.client_rows.Goals as goal
 
 pub loop-line-preserved : goal.loop-line-preserved
 loop-line-preserved g c =
-    let more : c.push.new.self.items ≡ c.loop-line.rows.items ++ c.client_row.result ∷ [] = c.in_ok-push.ensures.items in
+    let more : c.push.new.self.items ≡ c.loop-line.rows.items ++ c.client_row.result ∷ [] = c.in_ok-push.ensures.items
+    in
     record {
-      count = omega (arith, ap length more, length-append c.loop-line.rows.items (c.client_row.result ∷ []), c.loop-line.invariant.count);
+      count = omega (
+        arith,
+        ap length more,
+        length-append c.loop-line.rows.items
+            (c.client_row.result ∷ []),
+        c.loop-line.invariant.count,
+      );
       rows = λ terms before short is.
           subst (AreRowsOf before c.args.lines.now) (sym more)
-          (row-added before c.args.lines.now c.loop-line.line-index c.line-item.result c.loop-line.rows.items c.client_row.result
-          c.loop-line-test.true c.line-item.is c.loop-line.invariant.count (c.loop-line.invariant.rows terms before short is)
-          (c.client_row.ensures ∙ ap (λ (n : ℕ). client_row_of n c.line-item.result) (c.open_count.ensures terms before short is)
-          ∙ ap (λ (k : ℕ). client_row_of (open_orders (issued (k + 1) before)) c.line-item.result) (c.len.ensures ∙ (c.loop-line.rows.ok.0 ∙ c.loop-line.invariant.count))));
+          (row-added before c.args.lines.now c.loop-line.line-index c.line-item.result c.loop-line.rows.items
+          c.client_row.result
+          c.loop-line-test.true c.line-item.is c.loop-line.invariant.count
+          (c.loop-line.invariant.rows terms before short is)
+          (c.client_row.ensures ∙ ap (λ (n : ℕ). client_row_of n c.line-item.result)
+          (c.open_count.ensures terms before short is)
+          ∙ ap (λ (k : ℕ). client_row_of (open_orders (issued (k + 1) before)) c.line-item.result)
+          (c.len.ensures ∙ (c.loop-line.rows.ok.0 ∙ c.loop-line.invariant.count))));
     }

@@ -16,12 +16,14 @@ loop-event-preserved c = record {
   after =
       let before = history (take c.loop-event.event-index c.args.events.now) c.loop-event.batches.items in
       rw c.in_ok-push.ensures.items (subst (λ (h : History). IsAfter c.args.settings.now h c.step.new.self)
-      (sym (history-more c.args.events.now c.loop-event.batches.items c.loop-event.event-index c.event-item.result c.in_ok-batch.batch c.loop-event-test.true c.event-item.is c.loop-event.invariant.same))
+      (sym (history-more c.args.events.now c.loop-event.batches.items c.loop-event.event-index c.event-item.result
+      c.in_ok-batch.batch c.loop-event-test.true c.event-item.is c.loop-event.invariant.same))
       (c.in_ok-batch.ensures.after c.args.settings.now before c.loop-event.invariant.after));
   same = rw (c.in_ok-push.ensures.items, length-append) (omega (arith, c.loop-event.invariant.same));
 }
 
 pub returns-clause-holds : goal.returns-clause-holds
 returns-clause-holds c =
-    let after = rw (take_all c.loop-event.event-index c.args.events.now (omega arith)) at c.loop-event.invariant.after in
+    let after = rw (take_all c.loop-event.event-index c.args.events.now (omega arith)) at c.loop-event.invariant.after
+    in
     (after-now c.args.settings.now (history c.args.events.now c.loop-event.batches.items) c.loop-event.core after).holds

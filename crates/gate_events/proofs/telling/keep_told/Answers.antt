@@ -10,4 +10,5 @@ returns c =
     let some : 1 ≤ length c.told-told.result.now = grind (arith, nat_tests, c.is_empty.ensures, c.if-is_empty.false) in
     c.in_ok-push.ensures.items
     ∙ ap (λ (told : List LinkOut). lists ++ told ∷ []) c.in_ok-copied.ensures
-    ∙ ap (λ (more : List (List LinkOut)). lists ++ more) (sym (told-kept c.told-told.result.now _ c.told-told.ensures some))
+    ∙ ap (λ (more : List (List LinkOut)). lists ++ more)
+    (sym (told-kept c.told-told.result.now _ c.told-told.ensures some))

@@ -8,5 +8,6 @@ use Rattle.gate_events.proofs.telling.told_lists.Goals as goal
 pub loop-batch-preserved : goal.loop-batch-preserved
 loop-batch-preserved c =
     c.in_ok-keep_told.ensures
-    ∙ ap (λ (lists : List (List LinkOut)). lists ++ unless_empty (told_to c.args.recipient (batch_seen c.batch-item.result))) c.loop-batch.invariant
+    ∙ ap (λ (lists : List (List LinkOut)). lists
+    ++ unless_empty (told_to c.args.recipient (batch_seen c.batch-item.result))) c.loop-batch.invariant
     ∙ sym (lists-more c.args.recipient _ _ c.batch-item.result c.loop-batch-test.true c.batch-item.is)

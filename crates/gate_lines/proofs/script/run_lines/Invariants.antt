@@ -8,6 +8,7 @@ use Rattle.gate_lines.proofs.script.run_lines.Given as goal
 abbrev pub invariant-loop-number : goal.invariant-loop-number
 invariant-loop-number g l =
     (given : List (List ℕ))
-    × Prints l.fn.flags l.initial.runner given l.runner (g.W.Write.contents l.initial.output) (g.W.Write.contents l.output)
+    × Prints l.fn.flags l.initial.runner given l.runner (g.W.Write.contents l.initial.output)
+    (g.W.Write.contents l.output)
     × Leaves (g.R.Read.remaining l.initial.input) given (lines_left l.lines (g.R.Read.remaining l.input))
     × (length given + 1 ≡ l.number)

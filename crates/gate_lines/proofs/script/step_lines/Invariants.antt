@@ -12,6 +12,7 @@ invariant-loop-number g l = record {
   on : ScriptGoesOn l.initial.runner.core l.initial.kept l.runner.core l.kept;
   lines :
       (given : List (List ℕ))
-      × FoldsTo IsTextStep (record { runner = l.initial.runner; kept = l.initial.kept }) given (record { runner = l.runner; kept = l.kept })
+      × FoldsTo IsTextStep (record { runner = l.initial.runner; kept = l.initial.kept }) given
+      (record { runner = l.runner; kept = l.kept })
       × Leaves (g.R.Read.remaining l.initial.input) given (lines_left l.lines (g.R.Read.remaining l.input));
 }

@@ -1,7 +1,8 @@
 use Rattle.std.proofs.Common.{rules, arith}
 use Rattle.std.proofs.lemmas.Slice.Zip.{all_zipped_more}
 use Rattle.gate_serving.specs.Lines.{MayBeDone}
-use Rattle.gate_serving.proofs.job.+fn-run_pairs-scope+run_pairs.Goals.{scope-in-Ok, scope-in-Err, scope-in-Ok-other, scope-in-Err-other}
+use Rattle.gate_serving.proofs.job.+fn-run_pairs-scope+run_pairs.Goals.{scope-in-Ok, scope-in-Err, scope-in-Ok-other}
+use Rattle.gate_serving.proofs.job.+fn-run_pairs-scope+run_pairs.Goals.{scope-in-Err-other}
 use Rattle.gate_serving.proofs.job.+fn-run_pairs-scope+run_pairs.Goals as goal
 
 pub scope-returns : goal.scope-returns
@@ -15,7 +16,9 @@ scope-returns g t c =
       | scope-in-Err-other w ↦ rw w.second-is (search rules)
     ] in
     record {
-      did = rw c.in-Ok-push.ensures.items (all_zipped_more (λ old new. MayBeDone g.A.Job.did old.0 new.0 × MayBeDone g.B.Job.did old.1 new.1) _ _ (c.captures.first, c.captures.second) _ c.run_pairs-back.ensures.did (one, other));
+      did = rw c.in-Ok-push.ensures.items (all_zipped_more
+          (λ old new. MayBeDone g.A.Job.did old.0 new.0 × MayBeDone g.B.Job.did old.1 new.1) _ _
+          (c.captures.first, c.captures.second) _ c.run_pairs-back.ensures.did (one, other));
       meanwhile = c.run_pairs-back.ensures.meanwhile;
       capacity = omega (arith, c.in-Ok-push.ensures.capacity, c.run_pairs-back.ensures.capacity);
     }

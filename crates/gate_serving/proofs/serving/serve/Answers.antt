@@ -19,7 +19,15 @@ pub joined-back-requires-clause-room : goal.joined-back-requires-clause-room
 joined-back-requires-clause-room g c =
     let done = AllZip-long _ _ _ c.run_all-halves.ensures.did in
     let split = AllZip-long _ _ _ c.split-halves.ensures.lines in
-    omega (arith, done, split, c.run_all-halves.result.0.ok.0, c.args.lines.ok.0, c.in-Ok-with_capacity-2.ensures.exact, c.len-count.ensures)
+    omega (
+      arith,
+      done,
+      split,
+      c.run_all-halves.result.0.ok.0,
+      c.args.lines.ok.0,
+      c.in-Ok-with_capacity-2.ensures.exact,
+      c.len-count.ensures,
+    )
 
 pub returns-then-not-load-clause-served : goal.returns-then-not-load-clause-served
 returns-then-not-load-clause-served g c =
@@ -28,7 +36,8 @@ returns-then-not-load-clause-served g c =
     IsJoined (λ x. ◌≡◌ {A = Bool} x.0.all_over true)
     (LineServed g.O.Opener.has_ended g.O.Opener.opened g.G.Gate.was_put g.G.Gate.was_taken (HasEnded _) true)
     (served_whole g.O.Opener.has_ended g.O.Opener.opened g.G.Gate.was_put g.G.Gate.was_taken (HasEnded _))
-    _ _ _ _ c.split-halves.ensures.lines c.run_all-halves.ensures.did (c.joined-back.ensures.all_over c.if-all_over.true) c.joined-back.ensures.lines
+    _ _ _ _ c.split-halves.ensures.lines c.run_all-halves.ensures.did
+    (c.joined-back.ensures.all_over c.if-all_over.true) c.joined-back.ensures.lines
 
 pub returns-clause-no_thread : goal.returns-clause-no_thread
 returns-clause-no_thread g c = λ e. (
@@ -37,7 +46,8 @@ returns-clause-no_thread g c = λ e. (
       IsJoined (λ x. Unit {0})
       (LineServed g.O.Opener.has_ended g.O.Opener.opened g.G.Gate.was_put g.G.Gate.was_taken (HasEnded _) false)
       (served_in_part g.O.Opener.has_ended g.O.Opener.opened g.G.Gate.was_put g.G.Gate.was_taken (HasEnded _))
-      _ _ _ _ c.split-halves.ensures.lines c.run_all-halves.ensures.did (all_of_any c.run_all-halves.result.0.items) c.joined-back.ensures.lines,
+      _ _ _ _ c.split-halves.ensures.lines c.run_all-halves.ensures.did
+      (all_of_any c.run_all-halves.result.0.items) c.joined-back.ensures.lines,
   c.run_all-halves.ensures.meanwhile,
 )
 

@@ -13,12 +13,18 @@ use Rattle.gate_sessions.proofs.issuing.client_issue_all.Given as goal
 abbrev pub invariant-loop-body : goal.invariant-loop-body
 invariant-loop-body l = record {
   leave : (s : Settings) (calls : ℕ → List Timed) → ClientsLeave s calls l.fn.clients.lines.items
-      → ClientsLeave s (called_all (l.place + 1) (issues l.at (map body_fields (take l.body-index l.bodies))) calls) l.clients.lines.items;
+      → ClientsLeave s (called_all (l.place + 1) (issues l.at (map body_fields (take l.body-index l.bodies))) calls)
+      l.clients.lines.items;
   outs : (s : Settings) (calls : ℕ → List Timed) → ClientsLeave s calls l.fn.clients.lines.items
-      → map link_out_seen l.all.outs.items ≡ outs_told_on l.link (map (told_of_out s.comp (client_name s (l.place + 1))) (client_outs s (l.place + 1) (calls (l.place + 1)) (issues l.at (map body_fields (take l.body-index l.bodies)))));
+      → map link_out_seen l.all.outs.items ≡ outs_told_on l.link
+      (map (told_of_out s.comp (client_name s (l.place + 1)))
+      (client_outs s (l.place + 1) (calls (l.place + 1))
+      (issues l.at (map body_fields (take l.body-index l.bodies)))));
   reports : (s : Settings) (calls : ℕ → List Timed) → ClientsLeave s calls l.fn.clients.lines.items
-      → l.all.reports.items ≡ client_reports s (l.place + 1) (calls (l.place + 1)) (issues l.at (map body_fields (take l.body-index l.bodies)));
+      → l.all.reports.items ≡ client_reports s (l.place + 1) (calls (l.place + 1))
+      (issues l.at (map body_fields (take l.body-index l.bodies)));
   links : (links : ℕ → Option ℕ) → ClientLinks links l.fn.clients.lines.items → ClientLinks links l.clients.lines.items;
-  settled : (was : ℕ → ClientStands) → ClientsSettledAs was l.fn.clients.lines.items → ClientsSettledAs was l.clients.lines.items;
+  settled : (was : ℕ → ClientStands) → ClientsSettledAs was l.fn.clients.lines.items
+      → ClientsSettledAs was l.clients.lines.items;
   length : length l.clients.lines.items ≡ length l.fn.clients.lines.items;
 }

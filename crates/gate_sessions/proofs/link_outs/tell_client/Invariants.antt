@@ -6,4 +6,5 @@ use Rattle.gate_sessions.proofs.link_outs.tell_client.Given as goal
 
 -- the outputs passed so far
 abbrev pub invariant-loop-out : goal.invariant-loop-out
-invariant-loop-out l = map link_out_seen l.to.items ≡ map link_out_seen l.fn.to.items ++ map (to_link l.link) (map told_bytes l.yielded)
+invariant-loop-out l = map link_out_seen l.to.items
+    ≡ map link_out_seen l.fn.to.items ++ map (to_link l.link) (map told_bytes l.yielded)

@@ -7,4 +7,6 @@ use Rattle.gate_sessions.proofs.links.told_client.Goals as goal
 
 pub returns-clause-links : goal.returns-clause-links
 returns-clause-links c links are =
-    subst (λ (outs : List LinkOut). ClientLinks (unlinked (c.args.place + 1) (map link_out_seen outs) links) c.close_client.new.clients.lines.items) c.deref.ensures.value (c.close_client.ensures.links links are)
+    subst (λ (outs : List LinkOut). ClientLinks
+    (unlinked (c.args.place + 1) (map link_out_seen outs) links) c.close_client.new.clients.lines.items)
+    c.deref.ensures.value (c.close_client.ensures.links links are)

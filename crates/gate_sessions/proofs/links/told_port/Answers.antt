@@ -7,4 +7,6 @@ use Rattle.gate_sessions.proofs.links.told_port.Goals as goal
 
 pub returns-clause-links : goal.returns-clause-links
 returns-clause-links c links are =
-    subst (λ (outs : List LinkOut). PortLinks (unlinked (c.args.place + 1) (map link_out_seen outs) links) c.close_port.new.ports.lines.items) c.deref.ensures.value (c.close_port.ensures.links links are)
+    subst (λ (outs : List LinkOut). PortLinks
+    (unlinked (c.args.place + 1) (map link_out_seen outs) links) c.close_port.new.ports.lines.items)
+    c.deref.ensures.value (c.close_port.ensures.links links are)

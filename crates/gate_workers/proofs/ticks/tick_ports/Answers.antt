@@ -8,6 +8,8 @@ loop-i-init g c = record { puts = λ o. ticks_none o c.args.ports (g.G.Gate.was_
 
 pub loop-i-preserved : goal.loop-i-preserved
 loop-i-preserved g c = record {
-  puts = λ o. ticks_more o c.args.ports (PortTick c.new-port.result c.args.at) _ _ _ (omega (arith, c.new-port.ensures), omega (arith, c.new-port.ensures, c.loop-i-test.true)) (c.loop-i.invariant.puts o) c.tick.ensures.put;
+  puts = λ o. ticks_more o c.args.ports (PortTick c.new-port.result c.args.at) _ _ _
+      (omega (arith, c.new-port.ensures), omega (arith, c.new-port.ensures, c.loop-i-test.true))
+      (c.loop-i.invariant.puts o) c.tick.ensures.put;
   none_taken = c.tick.ensures.none_taken ∙ c.loop-i.invariant.none_taken;
 }

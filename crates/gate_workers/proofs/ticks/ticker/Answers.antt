@@ -14,6 +14,8 @@ pub loop-preserved : goal.loop-preserved
 loop-preserved g c = record {
   can_next = tt;
   is_finite = tt;
-  puts = ticks_also c.args.clients c.args.ports _ _ _ (ticks_also c.args.clients c.args.ports _ _ _ c.loop.invariant.puts (c.tick_clients.ensures.ticks c.args.ports)) (c.tick_ports.ensures.ticks c.args.clients);
+  puts = ticks_also c.args.clients c.args.ports _ _ _
+      (ticks_also c.args.clients c.args.ports _ _ _ c.loop.invariant.puts (c.tick_clients.ensures.ticks c.args.ports))
+      (c.tick_ports.ensures.ticks c.args.clients);
   none_taken = c.tick_ports.ensures.none_taken ∙ (c.tick_clients.ensures.none_taken ∙ c.loop.invariant.none_taken);
 }

@@ -17,4 +17,5 @@ returns-clause-app c =
     let with_settings_is : app_of c.in_ok-with_settings.with_settings
     ≡ with_rule (with_rule (with_rule (new_app (codes "audit")) (value_rule (codes "script"))) (value_rule (codes "journal"))) (value_rule (codes "settings")) =
     c.in_ok-with_settings.ensures.app ∙ ap₂ with_rule with_journal_is c.option-settings.ensures.rule in
-    IfOk-weaker c.with_option-4.result _ _ (λ command h. h ∙ ap₂ with_rule with_settings_is c.flag-so_far.ensures.rule) c.with_option-4.ensures.app
+    IfOk-weaker c.with_option-4.result _ _ (λ command h. h ∙ ap₂ with_rule with_settings_is c.flag-so_far.ensures.rule)
+    c.with_option-4.ensures.app

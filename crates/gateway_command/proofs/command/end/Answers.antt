@@ -14,4 +14,5 @@ returns-clause-app c =
     let with_now_is : app_of c.in_ok-with_now.with_now
     ≡ with_rule (with_rule (new_app (codes "end")) (required_rule (codes "settings"))) (flag_rule (codes "now")) =
     c.in_ok-with_now.ensures.app ∙ ap₂ with_rule with_settings_is c.flag-now.ensures.rule in
-    IfOk-weaker c.with_option-3.result _ _ (λ command h. h ∙ ap₂ with_rule with_now_is c.option-journal.ensures.rule) c.with_option-3.ensures.app
+    IfOk-weaker c.with_option-3.result _ _ (λ command h. h ∙ ap₂ with_rule with_now_is c.option-journal.ensures.rule)
+    c.with_option-3.ensures.app

@@ -11,4 +11,5 @@ returns-clause-app c =
     let alone_is : app_of c.after_help-alone.result ≡ new_app (codes "export") = search rules in
     let with_journal_is : app_of c.in_ok-with_journal.with_journal ≡ with_rule (new_app (codes "export")) (required_rule (codes "journal")) =
     c.in_ok-with_journal.ensures.app ∙ ap₂ with_rule alone_is c.required-journal.ensures.rule in
-    IfOk-weaker c.with_option-2.result _ _ (λ command h. h ∙ ap₂ with_rule with_journal_is c.option-format.ensures.rule) c.with_option-2.ensures.app
+    IfOk-weaker c.with_option-2.result _ _ (λ command h. h ∙ ap₂ with_rule with_journal_is c.option-format.ensures.rule)
+    c.with_option-2.ensures.app

@@ -21,8 +21,11 @@ returns c =
     c.in_ok-with_demo.ensures ∙ ap (λ x. with_command x demo) with_end_is in
     let with_audit_is : app_of c.in_ok-with_audit.with_audit ≡ with_command (with_command to_end demo) audit =
     c.in_ok-with_audit.ensures ∙ ap (λ x. with_command x audit) with_demo_is in
-    let with_export_is : app_of c.in_ok-with_export.with_export ≡ with_command (with_command (with_command to_end demo) audit) exports =
+    let with_export_is : app_of c.in_ok-with_export.with_export
+    ≡ with_command (with_command (with_command to_end demo) audit) exports =
     c.in_ok-with_export.ensures ∙ ap (λ x. with_command x exports) with_audit_is in
-    let with_journal_is : app_of c.in_ok-with_journal.with_journal ≡ with_command (with_command (with_command (with_command to_end demo) audit) exports) journal =
+    let with_journal_is : app_of c.in_ok-with_journal.with_journal
+    ≡ with_command (with_command (with_command (with_command to_end demo) audit) exports) journal =
     c.in_ok-with_journal.ensures ∙ ap (λ x. with_command x journal) with_export_is in
-    IfOk-weaker c.with_world.result _ _ (λ command h. h ∙ ap (λ x. with_command x world) with_journal_is) c.with_world.ensures
+    IfOk-weaker c.with_world.result _ _ (λ command h. h ∙ ap (λ x. with_command x world) with_journal_is)
+    c.with_world.ensures

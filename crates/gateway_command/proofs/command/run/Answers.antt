@@ -17,4 +17,5 @@ returns-clause-app c =
     let with_journal_is : app_of c.in_ok-with_journal.with_journal
     ≡ with_rule (with_rule (with_rule (new_app (codes "run")) (required_rule (codes "settings"))) (value_rule (codes "links"))) (value_rule (codes "journal")) =
     c.in_ok-with_journal.ensures.app ∙ ap₂ with_rule with_links_is c.option-journal.ensures.rule in
-    IfOk-weaker c.with_option-4.result _ _ (λ command h. h ∙ ap₂ with_rule with_journal_is c.sync_option.ensures.rule) c.with_option-4.ensures.app
+    IfOk-weaker c.with_option-4.result _ _ (λ command h. h ∙ ap₂ with_rule with_journal_is c.sync_option.ensures.rule)
+    c.with_option-4.ensures.app

@@ -17,4 +17,5 @@ returns-clause-app c =
     let with_clients_is : app_of c.in_ok-with_clients.with_clients
     ≡ with_rule (with_rule (with_rule (new_app (codes "world")) (required_rule (codes "seed"))) (required_rule (codes "steps"))) (value_rule (codes "clients")) =
     c.in_ok-with_clients.ensures.app ∙ ap₂ with_rule with_steps_is c.option-clients.ensures.rule in
-    IfOk-weaker c.with_option-4.result _ _ (λ command h. h ∙ ap₂ with_rule with_clients_is c.option-ports.ensures.rule) c.with_option-4.ensures.app
+    IfOk-weaker c.with_option-4.result _ _ (λ command h. h ∙ ap₂ with_rule with_clients_is c.option-ports.ensures.rule)
+    c.with_option-4.ensures.app

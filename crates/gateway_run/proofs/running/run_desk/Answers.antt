@@ -28,4 +28,11 @@ serve_desk-requires-send-G g c κs l =
 
 pub serve_desk-requires-clause-clock : goal.serve_desk-requires-clause-clock
 serve_desk-requires-clause-clock g c κs within =
-    omega (arith, c.go_on.ensures, c.in_ok-shared.ensures.inlets.0, ap (λ (l : List NamedInlet). length l) c.requires.named.0, c.requires.clock)
+    omega (
+      arith,
+      c.go_on.ensures,
+      c.in_ok-shared.ensures.inlets.0,
+      ap
+          (λ (l : List NamedInlet). length l) c.requires.named.0,
+      c.requires.clock,
+    )

@@ -41,7 +41,8 @@ serve-requires-send-G g c κs l =
     = λ q a p w e t K S T k b h s. inlet_gate_send W G p w e t bounds.send-A-Writer bounds.send-G K S T k b h s q a in
     let told : (a : NamedLft) (X : RattleType) → IsSend X → IsSend (TellingGate.the_row a X R)
     = λ a X x. telling_send a R bounds.sync-R X x in
-    let looked : (a : NamedLft) (X K : RattleType) (k : DeskName.Ghosts K.Denot) → IsSend X → IsSend (RunGate.the_row a X K R k)
+    let looked : (a : NamedLft) (X K : RattleType) (k : DeskName.Ghosts K.Denot) → IsSend X
+    → IsSend (RunGate.the_row a X K R k)
     = λ a X K k x. run_gate_send a K R k bounds.sync-R X x in
     search (told, looked, gates, sendable, crosses) depth 100 fits 500000
 

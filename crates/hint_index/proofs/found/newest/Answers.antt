@@ -6,4 +6,5 @@ pub returns-in-None : goal.returns-in-None
 returns-in-None g c = newest-none (g.Q.Sought.sought c.args.query.now) c.args.items.now (search rules)
 
 pub returns-in-Some : goal.returns-in-Some
-returns-in-Some g c = (newest-at (g.Q.Sought.sought c.args.query.now) c.args.items.now c.in-Some.behind (search rules)).1
+returns-in-Some g c = (newest-at (g.Q.Sought.sought c.args.query.now) c.args.items.now c.in-Some.behind
+    (search rules)).1

@@ -7,4 +7,5 @@ returns-then-is_at g c =
     only-newest (g.Q.Sought.sought c.args.query.now) c.args.items.now c.args.place there.0 c.requires there.1 there.2
 
 pub returns-else-is_at : goal.returns-else-is_at
-returns-else-is_at g c = only-none (g.Q.Sought.sought c.args.query.now) c.args.items.now c.args.place c.requires (c.is_at.ensures.no c.if-is_at.false)
+returns-else-is_at g c = only-none (g.Q.Sought.sought c.args.query.now) c.args.items.now c.args.place c.requires
+    (c.is_at.ensures.no c.if-is_at.false)

@@ -10,5 +10,6 @@ slice_bounds-result-end c = sym (length-take-le 64 c.args.text.now (omega (arith
 
 pub returns-else-text-le64-clause-short : goal.returns-else-text-le64-clause-short
 returns-else-text-le64-clause-short c =
-    let whole : length (take 64 c.args.text.now) ≡ 64 = length-take-le 64 c.args.text.now (omega (arith, c.if-text-le64.false)) in
+    let whole : length (take 64 c.args.text.now) ≡ 64 =
+    length-take-le 64 c.args.text.now (omega (arith, c.if-text-le64.false)) in
     omega (arith, whole)

@@ -8,8 +8,11 @@ keeps None = tt
 keeps (Some xs) = refl
 
 pub returns-in-Err-clause-refused : goal.returns-in-Err-clause-refused
-returns-in-Err-clause-refused g c = λ two.
-    (no-days-file c.args.file.now c.in-Err.number c.in-Err.fault c.in-Err.ensures.read (c.tell_refusal.ensures.refused two), keeps _)
+returns-in-Err-clause-refused g c = λ two. (
+  no-days-file c.args.file.now c.in-Err.number c.in-Err.fault c.in-Err.ensures.read
+      (c.tell_refusal.ensures.refused two),
+  keeps _,
+)
 
 pub returns-in-Ok-clause-audited : goal.returns-in-Ok-clause-audited
 returns-in-Ok-clause-audited g c = λ none.

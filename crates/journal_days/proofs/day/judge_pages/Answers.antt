@@ -15,10 +15,13 @@ returns-in-Err c =
     let version : Version = c.args.version in
     let text : List ℕ = c.as_slice-page.result.now in
     let behind : List (Vec ℕ Global) = c.in-Some.behind.now in
-    let e : page_fault_in_day version (length behind == 0) c.loop-first.number c.loop-first.place text ≡ Some c.in-Err.fault =
-    ap (λ (last : Bool). page_fault_in_day version last c.loop-first.number c.loop-first.place text) (sym c.is_empty.ensures) ∙ c.in-Err.ensures in
+    let e : page_fault_in_day version (length behind == 0) c.loop-first.number c.loop-first.place text
+    ≡ Some c.in-Err.fault =
+    ap (λ (last : Bool). page_fault_in_day version last c.loop-first.number c.loop-first.place text)
+    (sym c.is_empty.ensures) ∙ c.in-Err.ensures in
     sym c.loop-first.invariant
-    ∙ first-wrong version c.loop-first.index c.loop-first.number c.loop-first.place c.in-Some.first.now behind text c.as_slice-page.ensures.value c.loop-first.rest.now c.in-Err.fault c.in-Some.ensures.cases.0 e
+    ∙ first-wrong version c.loop-first.index c.loop-first.number c.loop-first.place c.in-Some.first.now behind text
+    c.as_slice-page.ensures.value c.loop-first.rest.now c.in-Err.fault c.in-Some.ensures.cases.0 e
 
 pub loop-first-preserved : goal.loop-first-preserved
 loop-first-preserved c =
@@ -26,9 +29,14 @@ loop-first-preserved c =
     let text : List ℕ = c.as_slice-page.result.now in
     let behind : List (Vec ℕ Global) = c.in-Some.behind.now in
     let e : page_fault_in_day version (length behind == 0) c.loop-first.number c.loop-first.place text ≡ None =
-    ap (λ (last : Bool). page_fault_in_day version last c.loop-first.number c.loop-first.place text) (sym c.is_empty.ensures) ∙ c.in-Ok.ensures.0 in
-    ap (λ i. fault_from version i c.number_behind-number.result c.in-Ok.later (texts behind)) c.page_behind-index.ensures
-    ∙ ap (λ n. fault_from version (page_behind c.loop-first.index) n c.in-Ok.later (texts behind)) c.number_behind-number.ensures
-    ∙ ap (λ (p : Place). fault_from version (page_behind c.loop-first.index) (number_behind text) p (texts behind)) c.in-Ok.ensures.1
-    ∙ sym (first-right version c.loop-first.index c.loop-first.number c.loop-first.place c.in-Some.first.now behind text c.as_slice-page.ensures.value c.loop-first.rest.now c.in-Some.ensures.cases.0 e)
+    ap (λ (last : Bool). page_fault_in_day version last c.loop-first.number c.loop-first.place text)
+    (sym c.is_empty.ensures) ∙ c.in-Ok.ensures.0 in
+    ap (λ i. fault_from version i c.number_behind-number.result c.in-Ok.later (texts behind))
+    c.page_behind-index.ensures
+    ∙ ap (λ n. fault_from version (page_behind c.loop-first.index) n c.in-Ok.later (texts behind))
+    c.number_behind-number.ensures
+    ∙ ap (λ (p : Place). fault_from version (page_behind c.loop-first.index) (number_behind text) p (texts behind))
+    c.in-Ok.ensures.1
+    ∙ sym (first-right version c.loop-first.index c.loop-first.number c.loop-first.place c.in-Some.first.now behind text
+    c.as_slice-page.ensures.value c.loop-first.rest.now c.in-Some.ensures.cases.0 e)
     ∙ c.loop-first.invariant

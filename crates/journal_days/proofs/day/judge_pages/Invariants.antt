@@ -5,7 +5,8 @@ use Rattle.journal_days.specs.Day.{day_fault, fault_from}
 use Rattle.journal_days.proofs.day.judge_pages.Given as goal
 
 abbrev pub invariant-loop-first : goal.invariant-loop-first
-invariant-loop-first l = fault_from l.fn.version l.index l.number l.place (texts l.rest) ≡ day_fault l.fn.version (texts l.pages)
+invariant-loop-first l = fault_from l.fn.version l.index l.number l.place (texts l.rest)
+    ≡ day_fault l.fn.version (texts l.pages)
 
 abbrev pub decreases-loop-first : goal.decreases-loop-first
 decreases-loop-first l = length l.rest

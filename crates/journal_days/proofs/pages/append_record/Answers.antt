@@ -15,7 +15,9 @@ returns-then-not-last_has_room-clause-ok c =
     let back : List ℕ = c.args.back.now in
     let r : Record = record_of c.args.head.now (front ++ back) in
     let none : last_has_room (texts pages) (length (record_text r)) ≡ false =
-    ap (last_has_room (texts pages)) (counted r front back refl) ∙ ap (λ (ps : List (Vec ℕ Global)). last_has_room (texts ps) (23 + length front + length back)) (sym c.as_slice.ensures.value)
+    ap (last_has_room (texts pages)) (counted r front back refl)
+    ∙ ap (λ (ps : List (Vec ℕ Global)). last_has_room (texts ps) (23 + length front + length back))
+    (sym c.as_slice.ensures.value)
     ∙ sym c.last_has_room.ensures ∙ c.if-not-last_has_room.true in
     on_ok_weaker c.begin_page.result (λ e. e ∙ sym (no-room (texts pages) (record_text r) none)) c.begin_page.ensures.ok
 
@@ -23,4 +25,5 @@ pub append_last-requires-clause-some : goal.append_last-requires-clause-some
 append_last-requires-clause-some c =
     let pages : List (Vec ℕ Global) = c.args.pages.now.items in
     room-some pages (23 + length c.args.front.now + length c.args.back.now)
-    (ap (λ (ps : List (Vec ℕ Global)). last_has_room (texts ps) (23 + length c.args.front.now + length c.args.back.now)) (sym c.as_slice.ensures.value) ∙ sym c.last_has_room.ensures ∙ c.if-not-last_has_room.false)
+    (ap (λ (ps : List (Vec ℕ Global)). last_has_room (texts ps) (23 + length c.args.front.now + length c.args.back.now))
+    (sym c.as_slice.ensures.value) ∙ sym c.last_has_room.ensures ∙ c.if-not-last_has_room.false)

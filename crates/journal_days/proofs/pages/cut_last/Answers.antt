@@ -11,4 +11,5 @@ returns c =
     ap (λ (ps : List (Vec ℕ Global)). texts ps) c.push_reserved.ensures.items ∙ texts-more kept c.truncate.new.self
     ∙ ap (λ (t : List ℕ). texts kept ++ t ∷ []) c.truncate.ensures.items
     ∙ sym (cut-last bytes (texts kept) c.in-Some.last.items)
-    ∙ ap (last_cut bytes) (sym (texts-more kept c.in-Some.last) ∙ ap (λ (ps : List (Vec ℕ Global)). texts ps) (sym c.in-Some.ensures.items))
+    ∙ ap (last_cut bytes) (sym (texts-more kept c.in-Some.last)
+    ∙ ap (λ (ps : List (Vec ℕ Global)). texts ps) (sym c.in-Some.ensures.items))

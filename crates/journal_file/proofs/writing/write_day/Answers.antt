@@ -15,5 +15,6 @@ returns g c =
         says = record { same = refl; day = c.pages.ensures.day };
         same = ap turns (sym c.pages.ensures.same);
       },
-      Appends-kept _ _ _ (file_of Two pages) (Appends-trans _ _ _ (sized_pages Two pages) (sized_page Two []) c.in_ok-write_pages.ensures c.in_ok-write_sized.ensures) c.flush.ensures.bytes,
+      Appends-kept _ _ _ (file_of Two pages) (Appends-trans _ _ _ (sized_pages Two pages)
+          (sized_page Two []) c.in_ok-write_pages.ensures c.in_ok-write_sized.ensures) c.flush.ensures.bytes,
     )

@@ -7,4 +7,5 @@ use Rattle.journal_file.specs.File.{sized_pages}
 use Rattle.journal_file.proofs.writing.write_pages.Given as goal
 
 abbrev pub invariant-loop-page : goal.invariant-loop-page
-invariant-loop-page g l = Appends (g.W.Write.contents l.initial.output) (g.W.Write.contents l.output) (sized_pages Two (texts (take l.page-index l.pages)))
+invariant-loop-page g l = Appends (g.W.Write.contents l.initial.output) (g.W.Write.contents l.output)
+    (sized_pages Two (texts (take l.page-index l.pages)))

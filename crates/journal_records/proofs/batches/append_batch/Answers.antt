@@ -6,15 +6,18 @@ use Rattle.journal_records.proofs.batches.append_batch.Goals as goal
 
 pub returns-in_err-append_port_part-clause-kept : goal.returns-in_err-append_port_part-clause-kept
 returns-in_err-append_port_part-clause-kept c =
-    more-both c.args.out.now c.append_client_part.new.out c.append_port_part.new.out c.in_ok-append_client_part.ensures.kept c.in_err-append_port_part.ensures.kept
+    more-both c.args.out.now c.append_client_part.new.out c.append_port_part.new.out
+    c.in_ok-append_client_part.ensures.kept c.in_err-append_port_part.ensures.kept
 
 pub returns-clause-kept : goal.returns-clause-kept
 returns-clause-kept c =
-    more-both c.args.out.now c.append_client_part.new.out c.append_port_part.new.out c.in_ok-append_client_part.ensures.kept c.in_ok-append_port_part.ensures.kept
+    more-both c.args.out.now c.append_client_part.new.out c.append_port_part.new.out
+    c.in_ok-append_client_part.ensures.kept c.in_ok-append_port_part.ensures.kept
 
 pub returns-clause-ok : goal.returns-clause-ok
 returns-clause-ok c =
     let b : Batch = batch_seen c.args.batch.now in
     both-parts c.args.out.now c.append_client_part.new.out c.append_port_part.new.out
-    (client_records c.args.at (named_number b.client) b.reports b.client_out) (port_records c.args.at (named_number b.port) b.port_out b.fault)
+    (client_records c.args.at (named_number b.client) b.reports b.client_out)
+    (port_records c.args.at (named_number b.port) b.port_out b.fault)
     c.in_ok-append_client_part.ensures.ok c.in_ok-append_port_part.ensures.ok

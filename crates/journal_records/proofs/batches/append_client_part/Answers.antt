@@ -12,11 +12,13 @@ use Rattle.journal_records.proofs.batches.append_client_part.Goals as goal
 
 pub returns-in_err-append_outs-clause-kept : goal.returns-in_err-append_outs-clause-kept
 returns-in_err-append_outs-clause-kept c =
-    more-both c.args.out.now c.append_reports.new.out c.append_outs.new.out c.in_ok-append_reports.ensures.kept c.in_err-append_outs.ensures.kept
+    more-both c.args.out.now c.append_reports.new.out c.append_outs.new.out c.in_ok-append_reports.ensures.kept
+    c.in_err-append_outs.ensures.kept
 
 pub returns-clause-kept : goal.returns-clause-kept
 returns-clause-kept c =
-    more-both c.args.out.now c.append_reports.new.out c.append_outs.new.out c.in_ok-append_reports.ensures.kept c.in_ok-append_outs.ensures.kept
+    more-both c.args.out.now c.append_reports.new.out c.append_outs.new.out c.in_ok-append_reports.ensures.kept
+    c.in_ok-append_outs.ensures.kept
 
 pub returns-clause-ok : goal.returns-clause-ok
 returns-clause-ok c =
@@ -25,8 +27,11 @@ returns-clause-ok c =
     let n : ℕ = c.client_of-client.result in
     let at : ℕ = c.args.at in
     both-parts out c.append_reports.new.out c.append_outs.new.out
-    (map (report_record at n) c.as_slice.result.now) (map (out_record kinds.ClientWrite kinds.ClientClose at n) (map link_out_seen c.as_slice-2.result.now))
+    (map (report_record at n) c.as_slice.result.now)
+    (map (out_record kinds.ClientWrite kinds.ClientClose at n) (map link_out_seen c.as_slice-2.result.now))
     c.in_ok-append_reports.ensures.ok c.in_ok-append_outs.ensures.ok
-    ∙ ap (λ (rs : List Message). with_records out (client_records at n rs (map link_out_seen c.as_slice-2.result.now))) c.as_slice.ensures.value
-    ∙ ap (λ (os : List LinkOut). with_records out (client_records at n b.reports (map link_out_seen os))) c.as_slice-2.ensures.value
+    ∙ ap (λ (rs : List Message). with_records out (client_records at n rs (map link_out_seen c.as_slice-2.result.now)))
+    c.as_slice.ensures.value
+    ∙ ap (λ (os : List LinkOut). with_records out (client_records at n b.reports (map link_out_seen os)))
+    c.as_slice-2.ensures.value
     ∙ ap (λ m. with_records out (client_records at m b.reports b.client_out)) c.client_of-client.ensures

@@ -11,11 +11,13 @@ use Rattle.journal_records.proofs.batches.append_port_part.Goals as goal
 
 pub returns-in_err-append_ending-clause-kept : goal.returns-in_err-append_ending-clause-kept
 returns-in_err-append_ending-clause-kept c =
-    more-both c.args.out.now c.append_outs.new.out c.append_ending.new.out c.in_ok-append_outs.ensures.kept c.in_err-append_ending.ensures.kept
+    more-both c.args.out.now c.append_outs.new.out c.append_ending.new.out c.in_ok-append_outs.ensures.kept
+    c.in_err-append_ending.ensures.kept
 
 pub returns-clause-kept : goal.returns-clause-kept
 returns-clause-kept c =
-    more-both c.args.out.now c.append_outs.new.out c.append_ending.new.out c.in_ok-append_outs.ensures.kept c.in_ok-append_ending.ensures.kept
+    more-both c.args.out.now c.append_outs.new.out c.append_ending.new.out c.in_ok-append_outs.ensures.kept
+    c.in_ok-append_ending.ensures.kept
 
 pub returns-clause-ok : goal.returns-clause-ok
 returns-clause-ok c =
@@ -24,7 +26,9 @@ returns-clause-ok c =
     let n : ℕ = c.port_of-port.result in
     let at : ℕ = c.args.at in
     both-parts out c.append_outs.new.out c.append_ending.new.out
-    (map (out_record kinds.PortWrite kinds.PortClose at n) (map link_out_seen c.as_slice.result.now)) (fault_records at n b.fault ++ end_record at ∷ [])
+    (map (out_record kinds.PortWrite kinds.PortClose at n) (map link_out_seen c.as_slice.result.now))
+    (fault_records at n b.fault ++ end_record at ∷ [])
     c.in_ok-append_outs.ensures.ok c.in_ok-append_ending.ensures.ok
-    ∙ ap (λ (os : List LinkOut). with_records out (port_records at n (map link_out_seen os) b.fault)) c.as_slice.ensures.value
+    ∙ ap (λ (os : List LinkOut). with_records out (port_records at n (map link_out_seen os) b.fault))
+    c.as_slice.ensures.value
     ∙ ap (λ m. with_records out (port_records at m b.port_out b.fault)) c.port_of-port.ensures

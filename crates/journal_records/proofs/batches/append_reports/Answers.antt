@@ -13,16 +13,20 @@ use Rattle.journal_records.proofs.batches.append_reports.Goals as goal
 pub loop-report-preserved : goal.loop-report-preserved
 loop-report-preserved c =
     let is : record_of c.head.result c.text.result.now ≡ report_record c.args.at c.args.client c.report-item.result =
-    ap (λ (h : RecordHead). record_of h c.text.result.now) c.head.ensures ∙ ap (λ (p : List ℕ). record_with kinds.Report c.args.client 0 c.args.at p) c.text.ensures.text in
-    one-more (report_record c.args.at c.args.client) c.args.out.now c.loop-report.out c.append_record.new.out c.args.reports.now c.loop-report.report-index c.report-item.result
+    ap (λ (h : RecordHead). record_of h c.text.result.now) c.head.ensures
+    ∙ ap (λ (p : List ℕ). record_with kinds.Report c.args.client 0 c.args.at p) c.text.ensures.text in
+    one-more (report_record c.args.at c.args.client) c.args.out.now c.loop-report.out c.append_record.new.out
+    c.args.reports.now c.loop-report.report-index c.report-item.result
     c.loop-report-test.true c.report-item.is c.loop-report.invariant
     (c.in_ok-append_record.ensures.ok ∙ ap (λ (r : Record). with_records c.loop-report.out (r ∷ [])) is)
 
 pub returns-in_err-append_record-clause-kept : goal.returns-in_err-append_record-clause-kept
 returns-in_err-append_record-clause-kept c =
-    more-by c.args.out.now c.append_record.new.out (map (report_record c.args.at c.args.client) (take c.loop-report.report-index c.args.reports.now))
+    more-by c.args.out.now c.append_record.new.out
+    (map (report_record c.args.at c.args.client) (take c.loop-report.report-index c.args.reports.now))
     (c.in_err-append_record.ensures.err ∙ c.loop-report.invariant)
 
 pub returns-clause-kept : goal.returns-clause-kept
 returns-clause-kept c =
-    more-by c.args.out.now c.loop-report.out (map (report_record c.args.at c.args.client) (take c.loop-report.report-index c.args.reports.now)) c.loop-report.invariant
+    more-by c.args.out.now c.loop-report.out (map (report_record c.args.at c.args.client)
+    (take c.loop-report.report-index c.args.reports.now)) c.loop-report.invariant

@@ -6,4 +6,5 @@ use Rattle.journal_records.specs.Parts.{report_record}
 use Rattle.journal_records.proofs.batches.append_reports.Given as goal
 
 abbrev pub invariant-loop-report : goal.invariant-loop-report
-invariant-loop-report l = l.out ≡ with_records l.initial.out (map (report_record l.fn.at l.fn.client) (take l.report-index l.reports))
+invariant-loop-report l = l.out ≡ with_records l.initial.out
+    (map (report_record l.fn.at l.fn.client) (take l.report-index l.reports))

@@ -14,8 +14,10 @@ loop-record-preserved c =
     let behind : List Record = records_left c.in-Some.behind in
     let said : BatchSaid = parts_seen c.loop-record.parts in
     record {
-      said = ap (λ (s : BatchSaid). parts_said s behind) c.in_ok-add.ensures ∙ sym (part-said said ahead r behind c.in-Some.ensures.0 c.in-Some.ensures.1) ∙ c.loop-record.invariant.said;
-      behind = sym (part-behind ahead r behind c.in-Some.ensures.0 c.in-Some.ensures.1) ∙ c.loop-record.invariant.behind;
+      said = ap (λ (s : BatchSaid). parts_said s behind) c.in_ok-add.ensures
+          ∙ sym (part-said said ahead r behind c.in-Some.ensures.0 c.in-Some.ensures.1) ∙ c.loop-record.invariant.said;
+      behind = sym (part-behind ahead r behind c.in-Some.ensures.0 c.in-Some.ensures.1)
+          ∙ c.loop-record.invariant.behind;
     }
 
 pub loop-record-smaller : goal.loop-record-smaller
@@ -25,7 +27,8 @@ pub returns-clause-batch : goal.returns-clause-batch
 returns-clause-batch c =
     let ahead : List Record = records_left c.loop-record.ahead in
     let said : BatchSaid = parts_seen c.loop-record.parts in
-    c.into_batch.ensures ∙ ap batch_said (sym (no-part-said said ahead c.in_default.ensures) ∙ c.loop-record.invariant.said)
+    c.into_batch.ensures ∙ ap batch_said (sym (no-part-said said ahead c.in_default.ensures)
+    ∙ c.loop-record.invariant.said)
 
 pub returns-clause-behind : goal.returns-clause-behind
 returns-clause-behind c =

@@ -2,4 +2,5 @@ use Rattle.std.proofs.lemmas.Result.{on_ok_weaker}
 use Rattle.journal_records.proofs.turns.append_turn.Goals as goal
 
 pub returns-clause-turn : goal.returns-clause-turn
-returns-clause-turn c = on_ok_weaker c.append_whole.result (λ e. c.turn_fits.ensures.fits c.if-not-turn_fits.false) c.append_whole.ensures.ok
+returns-clause-turn c = on_ok_weaker c.append_whole.result
+    (λ e. c.turn_fits.ensures.fits c.if-not-turn_fits.false) c.append_whole.ensures.ok

@@ -5,4 +5,6 @@ use Rattle.market_book.proofs.order.mark.Goals as goal
 
 pub loop-trade-preserved : goal.loop-trade-preserved
 loop-trade-preserved c =
-    rw c.marked.ensures (changed_more (marked c.args.match_number) c.args.trades.now.items c.loop-trade.trade-items c.loop-trade.trade-index (record { match_number = 0; shares = 0; price = 0; is_broken = false }) (omega arith) (omega arith) c.loop-trade.invariant)
+    rw c.marked.ensures (changed_more (marked c.args.match_number) c.args.trades.now.items c.loop-trade.trade-items
+    c.loop-trade.trade-index (record { match_number = 0; shares = 0; price = 0; is_broken = false }) (omega arith)
+    (omega arith) c.loop-trade.invariant)

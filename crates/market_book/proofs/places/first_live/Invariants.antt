@@ -4,4 +4,5 @@ use Rattle.market_law.specs.Machine as law
 use Rattle.market_book.proofs.places.first_live.Given as goal
 
 abbrev pub invariant-loop-order : goal.invariant-loop-order
-invariant-loop-order l = (l.place ≡ l.order-index) × (list_any (law.is_live_as l.token) (take l.order-index l.orders) ≡ false)
+invariant-loop-order l = (l.place ≡ l.order-index)
+    × (list_any (law.is_live_as l.token) (take l.order-index l.orders) ≡ false)

@@ -4,4 +4,5 @@ use Rattle.market_law.specs.Machine as law
 use Rattle.market_book.proofs.places.first_with_trade.Given as goal
 
 abbrev pub invariant-loop-order : goal.invariant-loop-order
-invariant-loop-order l = (l.place ≡ l.order-index) × (list_any (law.has_trade l.match_number) (take l.order-index l.orders) ≡ false)
+invariant-loop-order l = (l.place ≡ l.order-index)
+    × (list_any (law.has_trade l.match_number) (take l.order-index l.orders) ≡ false)

@@ -19,7 +19,8 @@ returns c =
       lawful = may;
       told = c.in_ok-tell_accepted.ensures.told;
       now = ap (λ (x : Change). changed_by x c.args.order.now) c.opened_by.ensures
-          ∙ ap (λ (x : Bool). changed_by (changes.Opened c.args.message.now.shares c.args.message.now.price x) c.args.order.now) c.is_dead.ensures
+          ∙ ap (λ (x : Bool). changed_by (changes.Opened c.args.message.now.shares c.args.message.now.price x)
+          c.args.order.now) c.is_dead.ensures
           ∙ accepted-now c.args.issued c.args.message.now c.args.order.now;
       fits = rw c.opened_by.ensures (open-waits c.args.message.now c.args.order.now may, few);
     }

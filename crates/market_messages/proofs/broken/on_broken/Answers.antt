@@ -14,7 +14,8 @@ returns-then-not-has_had c =
 
 pub returns-in_default : goal.returns-in_default
 returns-in_default c =
-    broken-unlawful c.args.message.now c.args.order.now (sym c.standing_in.ensures.newest ∙ ap (option_map told_seen) c.in_default.is)
+    broken-unlawful c.args.message.now c.args.order.now
+    (sym c.standing_in.ensures.newest ∙ ap (option_map told_seen) c.in_default.is)
 
 pub returns : goal.returns
 returns c =
@@ -23,7 +24,8 @@ returns c =
     let t = c.in-Some.told in
     let steady = c.standing_in.ensures.steady in
     let own : is_of (record_life o) m.token ≡ true = (search rules) in
-    let here : find (stands_told m.match_number) o.trades ≡ Some (told_seen t) = sym c.standing_in.ensures.newest ∙ ap (option_map told_seen) c.in-Some.is in
+    let here : find (stands_told m.match_number) o.trades ≡ Some (told_seen t) = sym c.standing_in.ensures.newest
+    ∙ ap (option_map told_seen) c.in-Some.is in
     record {
       lawful = broken-is-lawful c.args.issued m o t steady own here;
       told = c.in_ok-tell_broken.ensures.told;

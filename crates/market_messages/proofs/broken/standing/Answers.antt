@@ -17,6 +17,18 @@ pub returns-in-Some : goal.returns-in-Some
 returns-in-Some c =
     let ts = c.args.trades.now in
     let n = c.args.match_number in
-    let newest : IsNewest (is_standing n) ts (length ts - 1 - c.in-Some.behind) = (newest-at (is_standing n) ts c.in-Some.behind (search rules)).1 in
-    sym (ap (option_map told_seen) (newest.newest ∙ slice_get-get_or ts (length ts - 1 - c.in-Some.behind) (record { trade = record { match_number = 0; shares = 0; price = 0; is_broken = Rattle.std.proofs.Common.false }; number = 0 }) newest.inside))
+    let newest : IsNewest (is_standing n) ts (length ts - 1 - c.in-Some.behind) =
+    (newest-at (is_standing n) ts c.in-Some.behind (search rules)).1 in
+    sym (ap (option_map told_seen) (newest.newest
+    ∙ slice_get-get_or ts (length ts - 1 - c.in-Some.behind)
+    (record {
+      trade = record {
+        match_number = 0;
+        shares = 0;
+        price = 0;
+        is_broken =
+            Rattle.std.proofs.Common.false;
+      };
+      number = 0;
+    }) newest.inside))
     ∙ standing-seen n ts

@@ -9,4 +9,5 @@ use Rattle.market_messages.proofs.executed.has_match.Goals as goal
 pub returns : goal.returns
 returns c =
     let n = c.args.match_number in
-    (search rules) ∙ any-seen n c.order.inside.trades.items ∙ ap (λ (o : OrderRecord). list_any (λ (t : Trade). t.match_number == n) (record_life o).trades) c.order.view_is
+    (search rules) ∙ any-seen n c.order.inside.trades.items
+    ∙ ap (λ (o : OrderRecord). list_any (λ (t : Trade). t.match_number == n) (record_life o).trades) c.order.view_is

@@ -15,6 +15,7 @@ returns c =
     record {
       lawful = may;
       told = c.in_ok-tell_executed.ensures.told;
-      now = ap (λ (t : ToldTrade). changed_by (changes.Traded t) o) c.told_trade.ensures ∙ executed-now m o may c.args.issued;
+      now = ap (λ (t : ToldTrade). changed_by (changes.Traded t) o) c.told_trade.ensures
+          ∙ executed-now m o may c.args.issued;
       fits = rw c.told_trade.ensures (trade-works m o may, trade-few m o may);
     }

@@ -20,12 +20,16 @@ returns-then-shares-order-clause-told c =
     let p = c.progress_after-progress.result in
     let all : m.shares ≡ o.unfilled = c.if-shares-order.true ∙ ap (λ (x : OrderRecord). x.unfilled) c.order.view_is in
     let after : progressed p o ≡ with_quantities (changed_by (changes.Traded (trade_said m (c.args.issued + 1))) o) o =
-    c.progress_after-progress.ensures.after ∙ ap (λ (t : ToldTrade). with_quantities (changed_by (changes.Traded t) o) o) c.told_trade-told.ensures in
+    c.progress_after-progress.ensures.after ∙ ap
+    (λ (t : ToldTrade). with_quantities (changed_by (changes.Traded t) o) o) c.told_trade-told.ensures in
     more-told c.push_report.new.bodies.items c.push_too_late.new.bodies.items _ _ _
-    (first-told c.in_ok-bodies.bodies.items c.push_report.new.bodies.items (report_fields c.in_ok-report.report) _ c.in_ok-bodies.ensures.items c.in_ok-push_report.ensures.told
+    (first-told c.in_ok-bodies.bodies.items c.push_report.new.bodies.items
+    (report_fields c.in_ok-report.report) _ c.in_ok-bodies.ensures.items c.in_ok-push_report.ensures.told
     (c.in_ok-report.ensures.told (shown_as (progressed p o)) c.shown_of-shown.ensures
-    ∙ ap (λ (x : OrderRecord). law.report (c.args.issued + 1) (occasion_seen (occasions.Trade m.shares m.price)) (shown_as x)) after))
-    (c.in_ok-push_too_late.ensures.told o.replaces (cancel_in o.cancel) (shown_as (progressed p o)) c.shown_of-shown.ensures (c.pending_of.ensures.pending p))
+    ∙ ap (λ (x : OrderRecord). law.report (c.args.issued + 1) (occasion_seen (occasions.Trade m.shares m.price))
+    (shown_as x)) after))
+    (c.in_ok-push_too_late.ensures.told o.replaces (cancel_in o.cancel)
+    (shown_as (progressed p o)) c.shown_of-shown.ensures (c.pending_of.ensures.pending p))
     (ap (λ (x : OrderRecord). law.too_late (shown_as x)) after)
     ∙ sym (filled-told m o c.requires.may c.args.issued all)
 
@@ -34,10 +38,14 @@ returns-clause-told c =
     let m = c.args.message.now in
     let o = c.args.order.now in
     let p = c.progress_after-progress.result in
-    let part : (m.shares ≡ o.unfilled) → ⊥ = λ e. c.if-shares-order.false (e ∙ ap (λ (x : OrderRecord). x.unfilled) (sym c.order.view_is)) in
+    let part : (m.shares ≡ o.unfilled) → ⊥ = λ e. c.if-shares-order.false
+    (e ∙ ap (λ (x : OrderRecord). x.unfilled) (sym c.order.view_is)) in
     let after : progressed p o ≡ with_quantities (changed_by (changes.Traded (trade_said m (c.args.issued + 1))) o) o =
-    c.progress_after-progress.ensures.after ∙ ap (λ (t : ToldTrade). with_quantities (changed_by (changes.Traded t) o) o) c.told_trade-told.ensures in
-    first-told c.in_ok-bodies.bodies.items c.push_report.new.bodies.items (report_fields c.in_ok-report.report) _ c.in_ok-bodies.ensures.items c.in_ok-push_report.ensures.told
+    c.progress_after-progress.ensures.after ∙ ap
+    (λ (t : ToldTrade). with_quantities (changed_by (changes.Traded t) o) o) c.told_trade-told.ensures in
+    first-told c.in_ok-bodies.bodies.items c.push_report.new.bodies.items
+    (report_fields c.in_ok-report.report) _ c.in_ok-bodies.ensures.items c.in_ok-push_report.ensures.told
     (c.in_ok-report.ensures.told (shown_as (progressed p o)) c.shown_of-shown.ensures
-    ∙ ap (λ (x : OrderRecord). law.report (c.args.issued + 1) (occasion_seen (occasions.Trade m.shares m.price)) (shown_as x)) after)
+    ∙ ap (λ (x : OrderRecord). law.report (c.args.issued + 1) (occasion_seen (occasions.Trade m.shares m.price))
+    (shown_as x)) after)
     ∙ sym (traded-told m o c.requires.may c.args.issued part)

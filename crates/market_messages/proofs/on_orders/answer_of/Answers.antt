@@ -12,4 +12,5 @@ returns-in-Ok c = λ issued m meets. record {
 }
 
 pub returns-in-Err : goal.returns-in-Err
-returns-in-Err c = λ issued m meets. c.refusal_of.ensures issued m c.args.order.now (subst (MeetsRow issued m c.args.order.now) c.in-Err.is meets)
+returns-in-Err c = λ issued m meets. c.refusal_of.ensures issued m c.args.order.now
+    (subst (MeetsRow issued m c.args.order.now) c.in-Err.is meets)

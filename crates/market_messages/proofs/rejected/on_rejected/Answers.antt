@@ -29,7 +29,8 @@ returns-then-may_reject_replace c =
     record {
       lawful = ap (λ (x : Bool). x || rejects_replace m o) not_new ∙ may;
       told = c.in_ok-tell_not_replaced.ensures.told c.args.issued;
-      now = not_replaced-now c.args.issued m o not_new (and_parts (is_first m.token (replacements o.replaces)) (not (is_closed o.stage)) may).0;
+      now = not_replaced-now c.args.issued m o not_new
+          (and_parts (is_first m.token (replacements o.replaces)) (not (is_closed o.stage)) may).0;
       fits = tt;
     }
 

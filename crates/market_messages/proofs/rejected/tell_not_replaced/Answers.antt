@@ -26,13 +26,28 @@ returns-clause-told c = λ issued.
     let cancel : Option Entry = cancel_in o.cancel in
     let is = c.pending_of-pending.ensures.pending p in
     let rest : law.Shown = record s { pending = option_to_list cancel } in
-    let shows = rest-shows c.shown_of-shown.result c.pending_of-pending.result o.replaces cancel s c.shown_of-shown.ensures is in
-    let first : is_first m.token (replacements o.replaces) ≡ true = (and_parts (is_first m.token (replacements o.replaces)) (not (is_closed o.stage)) c.requires.may).0 in
-    let same : progressed p o ≡ with_quantities (changed_by changes.NotReplaced o) o = c.progress_after-progress.ensures.after in
+    let shows = rest-shows c.shown_of-shown.result c.pending_of-pending.result o.replaces cancel s
+    c.shown_of-shown.ensures is in
+    let first : is_first m.token (replacements o.replaces) ≡ true =
+    (and_parts (is_first m.token (replacements o.replaces)) (not (is_closed o.stage)) c.requires.may).0 in
+    let same : progressed p o ≡ with_quantities (changed_by changes.NotReplaced o) o =
+    c.progress_after-progress.ensures.after in
     only-told c.in_ok-bodies.bodies.items c.push_cancel_rejected.new.bodies.items _ _ c.in_ok-bodies.ensures.items
-    (behind (map body_fields c.in_ok-bodies.bodies.items) [] (map body_fields c.push_not_replaced.new.bodies.items) (map body_fields c.push_cancel_rejected.new.bodies.items) _ _
+    (behind (map body_fields c.in_ok-bodies.bodies.items) [] (map body_fields c.push_not_replaced.new.bodies.items)
+    (map body_fields c.push_cancel_rejected.new.bodies.items) _ _
     (c.in_ok-push_not_replaced.ensures.told o.replaces cancel s c.shown_of-shown.ensures is)
-    (c.in_ok-push_cancel_rejected.ensures.told [] cancel rest shows (record { in_order = refl; replaces_are = refl; cancel_is = is.cancel_is; are_replaces = tt; is_cancel_set = is.is_cancel_set })))
-    (ap (λ (x : Bool). law.each_not_replaced (m.reason ∷ []) s s.pending ++ law.cancel_rejected x rest) c.is_last_of_replaces-is_last.ensures
-    ∙ ap (λ (r : OrderRecord). law.each_not_replaced (m.reason ∷ []) (shown_as r) (shown_as r).pending ++ law.cancel_rejected (last_after (λ token. list_any (bytes_eq token) (replacements o.replaces)) o.cancel) (record (shown_as r) { pending = option_to_list cancel })) same
+    (c.in_ok-push_cancel_rejected.ensures.told [] cancel rest shows
+    (record {
+      in_order = refl;
+      replaces_are = refl;
+      cancel_is = is.cancel_is;
+      are_replaces = tt;
+      is_cancel_set =
+          is.is_cancel_set;
+    })))
+    (ap (λ (x : Bool). law.each_not_replaced (m.reason ∷ []) s s.pending ++ law.cancel_rejected x rest)
+    c.is_last_of_replaces-is_last.ensures
+    ∙ ap (λ (r : OrderRecord). law.each_not_replaced (m.reason ∷ []) (shown_as r) (shown_as r).pending
+    ++ law.cancel_rejected (last_after (λ token. list_any (bytes_eq token) (replacements o.replaces)) o.cancel)
+    (record (shown_as r) { pending = option_to_list cancel })) same
     ∙ sym (not_replaced-told issued m o c.requires.not_new first is.are_replaces is.is_cancel_set is.in_order))

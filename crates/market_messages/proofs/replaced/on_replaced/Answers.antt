@@ -19,7 +19,8 @@ returns c =
       lawful = may;
       told = c.in_ok-tell_replaced.ensures.told;
       now = ap (λ (x : Change). changed_by x c.args.order.now) c.replaced_by.ensures
-          ∙ ap (λ (x : Bool). changed_by (changes.Replaced c.args.message.now.shares c.args.message.now.price x) c.args.order.now) c.is_dead.ensures
+          ∙ ap (λ (x : Bool). changed_by (changes.Replaced c.args.message.now.shares c.args.message.now.price x)
+          c.args.order.now) c.is_dead.ensures
           ∙ replaced-is c.args.issued c.args.message.now c.args.order.now may;
       fits = rw c.replaced_by.ensures (replace-works c.args.message.now c.args.order.now may, few);
     }

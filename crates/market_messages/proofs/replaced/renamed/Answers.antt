@@ -7,7 +7,8 @@ use Rattle.market_messages.proofs.replaced.renamed.Goals as goal
 pub returns : goal.returns
 returns c = λ pending q qs cancel s shows is same asks.
     let some = some-behind c.args.others.now qs same is.are_replaces.1 ∙ ap not (sym c.is_empty.ensures) in
-    let r = before-shows c.args.shown.now s qs (option_to_list cancel) (not c.is_empty.result) is.are_replaces.1 some (rest-shows c.args.shown.now pending (q ∷ qs) cancel s shows is) in
+    let r = before-shows c.args.shown.now s qs (option_to_list cancel) (not c.is_empty.result) is.are_replaces.1 some
+    (rest-shows c.args.shown.now pending (q ∷ qs) cancel s shows is) in
     record {
       order = r.order;
       id = asks.id;

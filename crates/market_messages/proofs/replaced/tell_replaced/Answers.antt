@@ -1,4 +1,5 @@
-use Rattle.std.proofs.Common.{◌≡◌, ◌+◌, ◌-◌, List, [], ◌∷◌, ◌++◌, Bool, bytes_eq, true, false, None, map, length, take, drop, refl, subst, sym, ap, ◌∙◌, codes}
+use Rattle.std.proofs.Common.{◌≡◌, ◌+◌, ◌-◌, List, [], ◌∷◌, ◌++◌, Bool, bytes_eq, true, false, None, map, length, take}
+use Rattle.std.proofs.Common.{drop, refl, subst, sym, ap, ◌∙◌, codes}
 use Rattle.std.specs.Prelude.{Option, option_to_list}
 use Rattle.orders.specs.fix_types.Report.{report_fields}
 use Rattle.orders.specs.order_law.History.{Entry}
@@ -33,25 +34,44 @@ returns-then-is_dead-clause-told c =
     let same : messages_in behind ≡ messages_of qs = messages-seen client order_id behind in
     let cancel : Option Entry = cancel_in o.cancel in
     let p = c.progress_after-opened.result in
-    let is = subst (λ (rs : List Entry). IsPending c.pending_of.result rs cancel (shown_as (progressed p o))) all (c.pending_of.ensures.pending p) in
+    let is = subst (λ (rs : List Entry). IsPending c.pending_of.result rs cancel (shown_as (progressed p o))) all
+    (c.pending_of.ensures.pending p) in
     let opened : progressed p o ≡ with_quantities (changed_by (changes.Replaced m.shares m.price false) o) o =
-    c.progress_after-opened.ensures.after ∙ ap (λ (x : Change). with_quantities (changed_by x o) o) c.replaced_by.ensures in
-    let s : law.Shown = record (shown_as (progressed p o)) { id = text 11 q.message; pending = qs ++ option_to_list cancel } in
-    let shows = c.renamed-shown.ensures c.pending_of.result q qs cancel (shown_as (progressed p o)) c.shown_of-whole.ensures is same c.of_replace-request.ensures in
+    c.progress_after-opened.ensures.after ∙ ap
+    (λ (x : Change). with_quantities (changed_by x o) o) c.replaced_by.ensures in
+    let s : law.Shown = record (shown_as (progressed p o))
+    { id = text 11 q.message; pending = qs ++ option_to_list cancel } in
+    let shows = c.renamed-shown.ensures c.pending_of.result q qs cancel
+    (shown_as (progressed p o)) c.shown_of-whole.ensures is same c.of_replace-request.ensures in
     let own = the-first m.token o q qs (replace-first m o c.requires.may) all in
-    let first = first-told c.in_ok-bodies.bodies.items c.push_report.new.bodies.items (report_fields c.in_ok-report.report) _ c.in_ok-bodies.ensures.items c.in_ok-push_report.ensures.told
+    let first = first-told c.in_ok-bodies.bodies.items c.push_report.new.bodies.items
+    (report_fields c.in_ok-report.report) _ c.in_ok-bodies.ensures.items c.in_ok-push_report.ensures.told
     (c.in_ok-report.ensures q s c.of_replace-request.ensures shows
     ∙ ap (λ (x : OrderRecord). law.report (c.args.issued + 1) (law.on_request (codes "5") q) (record (shown_as x) { id = text 11 q.message; pending = qs ++ option_to_list cancel })) opened) in
     let g = c.progress_after-gone.result in
     let gone : progressed g o ≡ with_quantities (changed_by (changes.Replaced m.shares m.price true) o) o =
-    c.progress_after-gone.ensures.after ∙ ap (λ (x : Change). with_quantities (changed_by x o) o) c.replaced_by-then-is_dead.ensures in
-    let t : law.Shown = record (shown_as (progressed g o)) { id = text 11 q.message; pending = qs ++ option_to_list cancel } in
-    let closed = c.renamed-closed.ensures c.pending_of.result q qs cancel (shown_as (progressed g o)) c.shown_of-over.ensures
-    (subst (λ (rs : List Entry). IsPending c.pending_of.result rs cancel (shown_as (progressed g o))) all (c.pending_of.ensures.pending g)) same c.of_replace-request.ensures in
+    c.progress_after-gone.ensures.after ∙ ap (λ (x : Change). with_quantities (changed_by x o) o)
+    c.replaced_by-then-is_dead.ensures in
+    let t : law.Shown = record (shown_as (progressed g o))
+    { id = text 11 q.message; pending = qs ++ option_to_list cancel } in
+    let closed = c.renamed-closed.ensures c.pending_of.result q qs cancel
+    (shown_as (progressed g o)) c.shown_of-over.ensures
+    (subst (λ (rs : List Entry). IsPending c.pending_of.result rs cancel (shown_as (progressed g o))) all
+    (c.pending_of.ensures.pending g)) same c.of_replace-request.ensures in
     more-told c.push_report.new.bodies.items c.push_canceled.new.bodies.items _ _ _ first
-    (c.in_ok-push_canceled.ensures.told qs cancel t closed (record { in_order = refl; replaces_are = same; cancel_is = is.cancel_is; are_replaces = is.are_replaces.1; is_cancel_set = is.is_cancel_set }))
-    (ap (λ (x : OrderRecord). law.cancelled (c.args.issued + 2) None (record (shown_as x) { id = text 11 q.message; pending = qs ++ option_to_list cancel })) gone)
-    ∙ sym (replaced-dead c.args.issued m o q qs all own (replace-live m o c.requires.may) is.are_replaces.0 (c.pending_of.ensures.pending p).in_order (sym c.if-is_dead.ensures))
+    (c.in_ok-push_canceled.ensures.told qs cancel t closed
+    (record {
+      in_order = refl;
+      replaces_are = same;
+      cancel_is = is.cancel_is;
+      are_replaces =
+          is.are_replaces.1;
+      is_cancel_set = is.is_cancel_set;
+    }))
+    (ap (λ (x : OrderRecord). law.cancelled (c.args.issued + 2) None
+    (record (shown_as x) { id = text 11 q.message; pending = qs ++ option_to_list cancel })) gone)
+    ∙ sym (replaced-dead c.args.issued m o q qs all own (replace-live m o c.requires.may) is.are_replaces.0
+    (c.pending_of.ensures.pending p).in_order (sym c.if-is_dead.ensures))
 
 pub returns-clause-told : goal.returns-clause-told
 returns-clause-told c =
@@ -68,17 +88,32 @@ returns-clause-told c =
     let same : messages_in behind ≡ messages_of qs = messages-seen client order_id behind in
     let cancel : Option Entry = cancel_in o.cancel in
     let p = c.progress_after-opened.result in
-    let is = subst (λ (rs : List Entry). IsPending c.pending_of.result rs cancel (shown_as (progressed p o))) all (c.pending_of.ensures.pending p) in
+    let is = subst (λ (rs : List Entry). IsPending c.pending_of.result rs cancel (shown_as (progressed p o))) all
+    (c.pending_of.ensures.pending p) in
     let opened : progressed p o ≡ with_quantities (changed_by (changes.Replaced m.shares m.price false) o) o =
-    c.progress_after-opened.ensures.after ∙ ap (λ (x : Change). with_quantities (changed_by x o) o) c.replaced_by.ensures in
-    let s : law.Shown = record (shown_as (progressed p o)) { id = text 11 q.message; pending = qs ++ option_to_list cancel } in
-    let shows = c.renamed-shown.ensures c.pending_of.result q qs cancel (shown_as (progressed p o)) c.shown_of-whole.ensures is same c.of_replace-request.ensures in
+    c.progress_after-opened.ensures.after ∙ ap
+    (λ (x : Change). with_quantities (changed_by x o) o) c.replaced_by.ensures in
+    let s : law.Shown = record (shown_as (progressed p o))
+    { id = text 11 q.message; pending = qs ++ option_to_list cancel } in
+    let shows = c.renamed-shown.ensures c.pending_of.result q qs cancel
+    (shown_as (progressed p o)) c.shown_of-whole.ensures is same c.of_replace-request.ensures in
     let own = the-first m.token o q qs (replace-first m o c.requires.may) all in
-    let first = first-told c.in_ok-bodies.bodies.items c.push_report.new.bodies.items (report_fields c.in_ok-report.report) _ c.in_ok-bodies.ensures.items c.in_ok-push_report.ensures.told
+    let first = first-told c.in_ok-bodies.bodies.items c.push_report.new.bodies.items
+    (report_fields c.in_ok-report.report) _ c.in_ok-bodies.ensures.items c.in_ok-push_report.ensures.told
     (c.in_ok-report.ensures q s c.of_replace-request.ensures shows
     ∙ ap (λ (x : OrderRecord). law.report (c.args.issued + 1) (law.on_request (codes "5") q) (record (shown_as x) { id = text 11 q.message; pending = qs ++ option_to_list cancel })) opened) in
     more-told c.push_report.new.bodies.items c.push_cancel_rejected.new.bodies.items _ _ _ first
-    (c.in_ok-push_cancel_rejected.ensures.told qs cancel s shows (record { in_order = refl; replaces_are = same; cancel_is = is.cancel_is; are_replaces = is.are_replaces.1; is_cancel_set = is.is_cancel_set }))
+    (c.in_ok-push_cancel_rejected.ensures.told qs cancel s shows
+    (record {
+      in_order = refl;
+      replaces_are = same;
+      cancel_is = is.cancel_is;
+      are_replaces =
+          is.are_replaces.1;
+      is_cancel_set = is.is_cancel_set;
+    }))
     (ap (λ (x : Bool). law.cancel_rejected x s) c.is_last-is_last.ensures
-    ∙ ap (λ (x : OrderRecord). law.cancel_rejected (last_after (bytes_eq m.previous_token) o.cancel) (record (shown_as x) { id = text 11 q.message; pending = qs ++ option_to_list cancel })) opened)
-    ∙ sym (replaced-live c.args.issued m o q qs all own (replace-live m o c.requires.may) is.are_replaces.0 (c.pending_of.ensures.pending p).in_order (sym c.if-is_dead.ensures))
+    ∙ ap (λ (x : OrderRecord). law.cancel_rejected (last_after (bytes_eq m.previous_token) o.cancel)
+    (record (shown_as x) { id = text 11 q.message; pending = qs ++ option_to_list cancel })) opened)
+    ∙ sym (replaced-live c.args.issued m o q qs all own (replace-live m o c.requires.may) is.are_replaces.0
+    (c.pending_of.ensures.pending p).in_order (sym c.if-is_dead.ensures))

@@ -9,5 +9,6 @@ use Rattle.new_orders.proofs.accepting.report_pending.Goals as goal
 pub returns : goal.returns
 returns c =
     c.in_ok-push_report.ensures.told
-    ∙ ap (λ (bs : List AppBody). map body_fields bs ++ report_fields c.in_ok-report.report ∷ []) c.in_ok-bodies.ensures.items
+    ∙ ap (λ (bs : List AppBody). map body_fields bs ++ report_fields c.in_ok-report.report ∷ [])
+    c.in_ok-bodies.ensures.items
     ∙ ap (λ (m : Message). m ∷ []) (c.in_ok-report.ensures.told (shown_as c.args.order.now) c.shown_now.ensures)

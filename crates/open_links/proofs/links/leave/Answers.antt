@@ -7,4 +7,5 @@ use Rattle.open_links.proofs.links.leave.Goals as goal
 
 pub returns : goal.returns
 returns c =
-    filter_same _ (λ (link : OpenLink). not (is_same_link c.args.gone.now link)) _ (λ x b f' k. search rules) _ _ c.retain.ensures.filtered
+    filter_same _ (λ (link : OpenLink). not (is_same_link c.args.gone.now link)) _
+    (λ x b f' k. search rules) _ _ c.retain.ensures.filtered

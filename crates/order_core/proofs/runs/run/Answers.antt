@@ -21,7 +21,9 @@ loop-event-init c = record {
 
 pub step-requires-clause-client : goal.step-requires-clause-client
 step-requires-clause-client c =
-    rw (ap core_clients c.settle.ensures ∙ c.loop-event.invariant.clients) (passes-at (is_known_client (length c.args.terms.now)) c.args.events.now c.loop-event.event-index c.event-item.result c.requires.clients c.loop-event-test.true c.event-item.is)
+    rw (ap core_clients c.settle.ensures ∙ c.loop-event.invariant.clients)
+    (passes-at (is_known_client (length c.args.terms.now)) c.args.events.now c.loop-event.event-index
+    c.event-item.result c.requires.clients c.loop-event-test.true c.event-item.is)
 
 pub step-requires-clause-room : goal.step-requires-clause-room
 step-requires-clause-room c =
@@ -32,12 +34,22 @@ pub loop-event-preserved : goal.loop-event-preserved
 loop-event-preserved c = record {
   after =
       let before = run_history (take c.loop-event.event-index c.args.events.now) c.loop-event.outcomes.items in
-      let short : NumbersLeft before = omega (arith, length-onto (take c.loop-event.event-index c.args.events.now) c.loop-event.outcomes.items [], length-take-le c.loop-event.event-index c.args.events.now (omega arith), c.requires.numbers) in
-      rw c.in_ok-push.ensures.items (subst (λ (h : OrderHistory). IsAfterTurns (map terms_seen c.args.terms.now) h c.step.new.core)
-      (sym (history-more c.args.events.now c.loop-event.outcomes.items c.loop-event.event-index c.event-item.result c.in_ok-outcome.outcome c.loop-event-test.true c.event-item.is c.loop-event.invariant.same))
+      let short : NumbersLeft before = omega (
+        arith,
+        length-onto
+            (take c.loop-event.event-index c.args.events.now) c.loop-event.outcomes.items [],
+        length-take-le
+            c.loop-event.event-index c.args.events.now (omega arith),
+        c.requires.numbers,
+      ) in
+      rw c.in_ok-push.ensures.items (subst (λ (h : OrderHistory). IsAfterTurns
+      (map terms_seen c.args.terms.now) h c.step.new.core)
+      (sym (history-more c.args.events.now c.loop-event.outcomes.items c.loop-event.event-index c.event-item.result
+      c.in_ok-outcome.outcome c.loop-event-test.true c.event-item.is c.loop-event.invariant.same))
       (c.in_ok-outcome.ensures.after (map terms_seen c.args.terms.now) before short
       (after-by_parts (map terms_seen c.args.terms.now) before c.loop-event.core c.settle.new.self
-      (ap (λ (o : OrderCoreState). o.table) (sym c.settle.ensures)) (ap (λ (o : OrderCoreState). o.kept) (sym c.settle.ensures)) c.loop-event.invariant.after)));
+      (ap (λ (o : OrderCoreState). o.table) (sym c.settle.ensures))
+      (ap (λ (o : OrderCoreState). o.kept) (sym c.settle.ensures)) c.loop-event.invariant.after)));
   same = rw (c.in_ok-push.ensures.items, length-append) (omega (arith, c.loop-event.invariant.same));
   clients = c.step.ensures.keeps.clients ∙ ap core_clients c.settle.ensures ∙ c.loop-event.invariant.clients;
   issued =
@@ -47,11 +59,19 @@ loop-event-preserved c = record {
 
 pub returns-clause-exact : goal.returns-clause-exact
 returns-clause-exact c =
-    let after = rw (take_all c.loop-event.event-index c.args.events.now (omega arith)) at c.loop-event.invariant.after in
-    (c.loop-event.core.table, (parts-of (map terms_seen c.args.terms.now) (run_history c.args.events.now c.loop-event.outcomes.items) c.loop-event.core after).0)
+    let after = rw (take_all c.loop-event.event-index c.args.events.now (omega arith)) at c.loop-event.invariant.after
+    in (
+      c.loop-event.core.table,
+      (parts-of (map terms_seen c.args.terms.now)
+          (run_history c.args.events.now c.loop-event.outcomes.items) c.loop-event.core after).0,
+    )
 
 pub returns-clause-headline : goal.returns-clause-headline
 returns-clause-headline c =
-    let after = rw (take_all c.loop-event.event-index c.args.events.now (omega arith)) at c.loop-event.invariant.after in
-    let leaves = (parts-of (map terms_seen c.args.terms.now) (run_history c.args.events.now c.loop-event.outcomes.items) c.loop-event.core after).0 in
-    headline-of (map terms_seen c.args.terms.now) (run_history c.args.events.now c.loop-event.outcomes.items) c.loop-event.core.table (omega (arith, length-onto c.args.events.now c.loop-event.outcomes.items [], c.requires.numbers)) leaves
+    let after = rw (take_all c.loop-event.event-index c.args.events.now (omega arith)) at c.loop-event.invariant.after
+    in
+    let leaves = (parts-of (map terms_seen c.args.terms.now)
+    (run_history c.args.events.now c.loop-event.outcomes.items) c.loop-event.core after).0 in
+    headline-of (map terms_seen c.args.terms.now)
+    (run_history c.args.events.now c.loop-event.outcomes.items) c.loop-event.core.table
+    (omega (arith, length-onto c.args.events.now c.loop-event.outcomes.items [], c.requires.numbers)) leaves

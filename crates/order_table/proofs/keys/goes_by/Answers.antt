@@ -14,10 +14,13 @@ returns-then-is_of_replaces c =
     let o = c.order.inside in
     let id = c.args.id.now in
     let any : c.is_of_replaces.result ≡ list_any (is_of_replacing id) o.replaces =
-    c.is_of_replaces.ensures ∙ ap (λ (rs : List Replacing). list_any (is_of_replacing id) rs) c.as_slice-else-eq.ensures in
+    c.is_of_replaces.ensures ∙ ap (λ (rs : List Replacing). list_any (is_of_replacing id) rs) c.as_slice-else-eq.ensures
+    in
     c.if-is_of_replaces.true
-    ∙ sym (second (bytes_eq o.cl_ord_id id) (list_any (is_of_replacing id) o.replaces) (has_cancel_id id (option_map (cancel_seen o.client o.order_id) o.cancel)) (sym any ∙ c.if-is_of_replaces.true))
-    ∙ ap (λ (b : Bool). bytes_eq o.cl_ord_id id || b) (has-any id o.client o.order_id o.replaces (option_map (cancel_seen o.client o.order_id) o.cancel))
+    ∙ sym (second (bytes_eq o.cl_ord_id id) (list_any (is_of_replacing id) o.replaces)
+    (has_cancel_id id (option_map (cancel_seen o.client o.order_id) o.cancel)) (sym any ∙ c.if-is_of_replaces.true))
+    ∙ ap (λ (b : Bool). bytes_eq o.cl_ord_id id || b)
+    (has-any id o.client o.order_id o.replaces (option_map (cancel_seen o.client o.order_id) o.cancel))
     ∙ ap (λ (r : OrderRecord). goes_by id (chained r)) c.order.view_is
 
 pub returns-else-is_of_replaces : goal.returns-else-is_of_replaces
@@ -25,10 +28,14 @@ returns-else-is_of_replaces c =
     let o = c.order.inside in
     let id = c.args.id.now in
     let any : c.is_of_replaces.result ≡ list_any (is_of_replacing id) o.replaces =
-    c.is_of_replaces.ensures ∙ ap (λ (rs : List Replacing). list_any (is_of_replacing id) rs) c.as_slice-else-eq.ensures in
+    c.is_of_replaces.ensures ∙ ap (λ (rs : List Replacing). list_any (is_of_replacing id) rs) c.as_slice-else-eq.ensures
+    in
     let own : bytes_eq o.cl_ord_id id ≡ false =
     ap (λ (bs : List ℕ). bytes_eq bs id) (sym c.as_slice.ensures.bytes) ∙ sym c.eq.ensures ∙ c.if-eq.false in
     c.is_of_cancel.ensures o.client o.order_id
-    ∙ third (bytes_eq o.cl_ord_id id) (list_any (is_of_replacing id) o.replaces) (has_cancel_id id (option_map (cancel_seen o.client o.order_id) o.cancel)) own (sym any ∙ c.if-is_of_replaces.false)
-    ∙ ap (λ (b : Bool). bytes_eq o.cl_ord_id id || b) (has-any id o.client o.order_id o.replaces (option_map (cancel_seen o.client o.order_id) o.cancel))
+    ∙ third (bytes_eq o.cl_ord_id id) (list_any (is_of_replacing id) o.replaces)
+    (has_cancel_id id (option_map (cancel_seen o.client o.order_id) o.cancel)) own
+    (sym any ∙ c.if-is_of_replaces.false)
+    ∙ ap (λ (b : Bool). bytes_eq o.cl_ord_id id || b)
+    (has-any id o.client o.order_id o.replaces (option_map (cancel_seen o.client o.order_id) o.cancel))
     ∙ ap (λ (r : OrderRecord). goes_by id (chained r)) c.order.view_is

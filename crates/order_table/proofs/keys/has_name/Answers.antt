@@ -13,22 +13,31 @@ pub returns-then-is_key_of_replaces : goal.returns-then-is_key_of_replaces
 returns-then-is_key_of_replaces c =
     let o = c.order.inside in
     let k = c.args.key.now in
-    let any : c.is_key_of_replaces.result ≡ is_key_of_replaces k o.client (map (replace_seen o.client o.order_id) o.replaces) =
-    c.is_key_of_replaces.ensures ∙ ap (λ (rs : List Replacing). list_any (is_key_of_replacing k o.client) rs) c.as_slice-else-eq.ensures ∙ keys-any k o.client o.order_id o.replaces in
+    let any : c.is_key_of_replaces.result ≡ is_key_of_replaces k o.client
+    (map (replace_seen o.client o.order_id) o.replaces) =
+    c.is_key_of_replaces.ensures ∙ ap (λ (rs : List Replacing). list_any (is_key_of_replacing k o.client) rs)
+    c.as_slice-else-eq.ensures ∙ keys-any k o.client o.order_id o.replaces in
     c.if-is_key_of_replaces.true
-    ∙ sym (second (same_name k (name_key o.client o.cl_ord_id)) (is_key_of_replaces k o.client (map (replace_seen o.client o.order_id) o.replaces))
-    (is_key_of_cancel k o.client (option_map (cancel_seen o.client o.order_id) o.cancel)) (sym any ∙ c.if-is_key_of_replaces.true))
+    ∙ sym (second (same_name k (name_key o.client o.cl_ord_id))
+    (is_key_of_replaces k o.client (map (replace_seen o.client o.order_id) o.replaces))
+    (is_key_of_cancel k o.client (option_map (cancel_seen o.client o.order_id) o.cancel))
+    (sym any ∙ c.if-is_key_of_replaces.true))
     ∙ ap (λ (r : OrderRecord). has_name_key k r) c.order.view_is
 
 pub returns-else-is_key_of_replaces : goal.returns-else-is_key_of_replaces
 returns-else-is_key_of_replaces c =
     let o = c.order.inside in
     let k = c.args.key.now in
-    let any : c.is_key_of_replaces.result ≡ is_key_of_replaces k o.client (map (replace_seen o.client o.order_id) o.replaces) =
-    c.is_key_of_replaces.ensures ∙ ap (λ (rs : List Replacing). list_any (is_key_of_replacing k o.client) rs) c.as_slice-else-eq.ensures ∙ keys-any k o.client o.order_id o.replaces in
+    let any : c.is_key_of_replaces.result ≡ is_key_of_replaces k o.client
+    (map (replace_seen o.client o.order_id) o.replaces) =
+    c.is_key_of_replaces.ensures ∙ ap (λ (rs : List Replacing). list_any (is_key_of_replacing k o.client) rs)
+    c.as_slice-else-eq.ensures ∙ keys-any k o.client o.order_id o.replaces in
     let own : same_name k (name_key o.client o.cl_ord_id) ≡ false =
-    ap (same_name k) (sym (c.of.ensures ∙ ap (name_key o.client) c.as_slice.ensures.bytes)) ∙ sym c.eq.ensures ∙ c.if-eq.false in
+    ap (same_name k) (sym (c.of.ensures ∙ ap (name_key o.client) c.as_slice.ensures.bytes)) ∙ sym c.eq.ensures
+    ∙ c.if-eq.false in
     c.is_key_of_cancel.ensures o.order_id
-    ∙ third (same_name k (name_key o.client o.cl_ord_id)) (is_key_of_replaces k o.client (map (replace_seen o.client o.order_id) o.replaces))
-    (is_key_of_cancel k o.client (option_map (cancel_seen o.client o.order_id) o.cancel)) own (sym any ∙ c.if-is_key_of_replaces.false)
+    ∙ third (same_name k (name_key o.client o.cl_ord_id))
+    (is_key_of_replaces k o.client (map (replace_seen o.client o.order_id) o.replaces))
+    (is_key_of_cancel k o.client (option_map (cancel_seen o.client o.order_id) o.cancel)) own
+    (sym any ∙ c.if-is_key_of_replaces.false)
     ∙ ap (λ (r : OrderRecord). has_name_key k r) c.order.view_is

@@ -14,11 +14,16 @@ returns-clause-leads g c =
     let o = c.order.inside in
     let h = c.note_some.new.names in
     let own = o.cl_ord_id in
-    let led : (k : NameKey) → LeadsTo (hint_of same_name c.note.new.self k) c.args.place → LeadsTo (hint_of same_name h k) c.args.place =
+    let led : (k : NameKey) → LeadsTo (hint_of same_name c.note.new.self k) c.args.place
+    → LeadsTo (hint_of same_name h k) c.args.place =
     λ k e. c.note_some.ensures.keeps k e in
-    let none : map (replace_seen o.client o.order_id) o.replaces ≡ [] = ap (λ (r : OrderRecord). r.replaces) c.order.view_is ∙ c.requires.none in
-    subst (λ (r : OrderRecord). (k : NameKey) → has_name_key k r ≡ true → LeadsTo (hint_of same_name h k) c.args.place) c.order.view_is
-    (name-leads h o.client own (map (replace_seen o.client o.order_id) o.replaces) (option_map (cancel_seen o.client o.order_id) o.cancel) c.args.place
-    (led (name_key o.client own) (subst (λ (k : NameKey). LeadsTo (hint_of same_name c.note.new.self k) c.args.place) (c.of-own.ensures ∙ ap (name_key o.client) c.as_slice.ensures.bytes) c.note.ensures.leads))
+    let none : map (replace_seen o.client o.order_id) o.replaces ≡ [] =
+    ap (λ (r : OrderRecord). r.replaces) c.order.view_is ∙ c.requires.none in
+    subst (λ (r : OrderRecord). (k : NameKey) → has_name_key k r ≡ true → LeadsTo (hint_of same_name h k) c.args.place)
+    c.order.view_is
+    (name-leads h o.client own (map (replace_seen o.client o.order_id) o.replaces)
+    (option_map (cancel_seen o.client o.order_id) o.cancel) c.args.place
+    (led (name_key o.client own) (subst (λ (k : NameKey). LeadsTo (hint_of same_name c.note.new.self k) c.args.place)
+    (c.of-own.ensures ∙ ap (name_key o.client) c.as_slice.ensures.bytes) c.note.ensures.leads))
     (λ k t. absurd (true≢false (sym t ∙ ap (λ (qs : List Entry). is_key_of_replaces k o.client qs) none)))
     (λ k t. c.note_some.ensures.leads k (c.key_of_cancel-cancel.ensures o.order_id k t)))

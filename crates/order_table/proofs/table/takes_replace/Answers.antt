@@ -10,5 +10,6 @@ pub returns : goal.returns
 returns c =
     let o = c.order.inside in
     ap (λ n. nat_lt n 4)
-    (ap (λ (rs : List Replacing). length rs) c.as_slice.ensures ∙ sym (length-map o.replaces (replace_seen o.client o.order_id))
+    (ap (λ (rs : List Replacing). length rs) c.as_slice.ensures
+    ∙ sym (length-map o.replaces (replace_seen o.client o.order_id))
     ∙ ap (λ (r : OrderRecord). length r.replaces) c.order.view_is)

@@ -4,4 +4,5 @@ use Rattle.orders.proofs.trades.mark.Given as goal
 
 -- those before the place are marked
 abbrev pub invariant-loop-place : goal.invariant-loop-place
-invariant-loop-place l = l.trades.items ≡ map (told_marked l.match_number) (take l.place l.fn.trades.items) ++ drop l.place l.fn.trades.items
+invariant-loop-place l = l.trades.items ≡ map (told_marked l.match_number) (take l.place l.fn.trades.items)
+    ++ drop l.place l.fn.trades.items

@@ -5,5 +5,6 @@ use Rattle.ouch_codec.proofs.field.put_fields.Goals as goal
 
 pub put_at-requires : goal.put_at-requires
 put_at-requires c =
-    let next = at_drop_more (λ fields. length (flat_map (λ field. field.now) fields)) c.args.fields.now c.loop-field.field-index (record { ref_ptr = (0, 0); now = [] }) (omega arith) in
+    let next = at_drop_more (λ fields. length (flat_map (λ field. field.now) fields)) c.args.fields.now
+    c.loop-field.field-index (record { ref_ptr = (0, 0); now = [] }) (omega arith) in
     omega (arith, next, length-append {A = ℕ})

@@ -8,4 +8,5 @@ returns-then-word_of c =
     same-bytes c.args.token.now c.args.other.now c.word_of-then-word_of.result c.word_of-then-word_of-2.result
     (search rules) (search rules)
     (sym c.word_of.ensures.bytes ∙ ap (λ k. to_le_bytes w64 k) c.if-word_of.true ∙ c.word_of-2.ensures.bytes)
-    c.word_of-then-word_of.ensures.word c.word_of-then-word_of.ensures.bytes c.word_of-then-word_of-2.ensures.word c.word_of-then-word_of-2.ensures.bytes
+    c.word_of-then-word_of.ensures.word c.word_of-then-word_of.ensures.bytes c.word_of-then-word_of-2.ensures.word
+    c.word_of-then-word_of-2.ensures.bytes

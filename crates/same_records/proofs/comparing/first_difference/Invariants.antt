@@ -5,7 +5,8 @@ use Rattle.same_records.proofs.Sides.{SameSoFar}
 use Rattle.same_records.proofs.comparing.first_difference.Given as goal
 
 abbrev pub invariant-loop-first : goal.invariant-loop-first
-invariant-loop-first l = SameSoFar l.batches (records_left l.fn.records) (records_left l.fn.others) (records_left l.rest) (records_left l.left)
+invariant-loop-first l = SameSoFar l.batches (records_left l.fn.records) (records_left l.fn.others)
+    (records_left l.rest) (records_left l.left)
 
 abbrev pub decreases-loop-first : goal.decreases-loop-first
 decreases-loop-first l = length (records_left l.rest)

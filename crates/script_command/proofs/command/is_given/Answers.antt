@@ -5,4 +5,5 @@ use Rattle.script_command.specs.Command.{is_true}
 use Rattle.script_command.proofs.command.is_given.Goals as goal
 
 pub returns : goal.returns
-returns c = c.is_true.ensures ∙ ap is_true (c.get_str.ensures ∙ first_value-rows (found_of c.args.matches.now) c.args.name.now)
+returns c = c.is_true.ensures ∙ ap is_true
+    (c.get_str.ensures ∙ first_value-rows (found_of c.args.matches.now) c.args.name.now)

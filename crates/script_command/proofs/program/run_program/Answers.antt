@@ -6,6 +6,7 @@ use Rattle.script_command.proofs.program.run_program.Goals as goal
 pub returns-in-Ok-clause-printed : goal.returns-in-Ok-clause-printed
 returns-in-Ok-clause-printed g c none is =
     subst
-    (λ (f : Flags). IfSome (g.R.Read.remaining c.args.input.now) (λ text. PrintsAll f text (g.W.Write.contents c.args.output.now) (g.W.Write.contents c.run_script.new.output)))
+    (λ (f : Flags). IfSome (g.R.Read.remaining c.args.input.now)
+    (λ text. PrintsAll f text (g.W.Write.contents c.args.output.now) (g.W.Write.contents c.run_script.new.output)))
     c.in-Ok.ensures.flags
     (c.run_script.ensures.printed is)

@@ -8,7 +8,8 @@ use Rattle.script_lines.specs.Forms.{is_number64}
 use Rattle.script_lines.proofs.Tests.{any_number_form}
 use Rattle.script_lines.proofs.words.number.Goals as goal
 
-read : (n : Option ℕ) (word : List ℕ) → SomeIff n (AreDigitsBelow (2 ^ 64) word) (number_of word) → 0 < length word → IsSome n ↔ IsNumberBelow (2 ^ 64) word
+read : (n : Option ℕ) (word : List ℕ) → SomeIff n (AreDigitsBelow (2 ^ 64) word) (number_of word) → 0 < length word
+    → IsSome n ↔ IsNumberBelow (2 ^ 64) word
 read None word h some = (λ is. cc, λ below. absurd (h (below.0, below.2)))
 read (Some n) word h some = (λ is. (h.0.0, some, h.0.1), λ below. refl)
 

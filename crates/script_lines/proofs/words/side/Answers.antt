@@ -7,7 +7,8 @@ use Rattle.script_lines.proofs.words.side.Goals as goal
 
 pub returns-in_err-letter-clause-form : goal.returns-in_err-letter-clause-form
 unfolding is_side_word
-returns-in_err-letter-clause-form c = rw c.from_residual.ensures (sym (no_letter is_side c.args.word.now c.in_err-letter.ensures))
+returns-in_err-letter-clause-form c = rw c.from_residual.ensures
+    (sym (no_letter is_side c.args.word.now c.in_err-letter.ensures))
 
 pub returns-clause-form : goal.returns-clause-form
 unfolding is_side_word

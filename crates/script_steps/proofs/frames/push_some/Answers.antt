@@ -18,4 +18,5 @@ loop-i-preserved c =
     c.in_ok-push.ensures.ok
     ∙ ap (λ fields. fields ++ field ∷ []) c.loop-i.invariant
     ∙ append_assoc before part (field ∷ [])
-    ∙ ap (λ fields. before ++ fields) (sym (part-more c.args.fields.now c.args.from c.loop-i.i field (omega (arith, c.loop-i.auto.i)) c.at-field.ensures))
+    ∙ ap (λ fields. before ++ fields) (sym (part-more c.args.fields.now c.args.from c.loop-i.i field
+    (omega (arith, c.loop-i.auto.i)) c.at-field.ensures))

@@ -7,4 +7,9 @@ use Rattle.script_steps.proofs.runner.warm_runner.Goals as goal
 pub returns : goal.returns
 returns g c =
     let warm : RunSoFar = record { runner = c.open_sessions.new.runner; kept = c.open_sessions.new.kept } in
-    λ none. (c.args.cold, c.requires, subst (λ (kept : Kept). FoldsTo IsStep (record { runner = c.args.cold; kept = kept }) opening_lines warm) none c.in_ok-open_sessions.ensures)
+    λ none. (
+      c.args.cold,
+      c.requires,
+      subst (λ (kept : Kept). FoldsTo IsStep
+          (record { runner = c.args.cold; kept = kept }) opening_lines warm) none c.in_ok-open_sessions.ensures,
+    )

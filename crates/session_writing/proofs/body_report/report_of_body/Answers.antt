@@ -10,20 +10,28 @@ use Rattle.session_writing.proofs.body_report.report_of_body.Goals as goal
 pub invariant_of-result : goal.invariant_of-result
 invariant_of-result c =
     let body = issued_body c.args.body.now in
-    (body-stands c.in_ok-printed.printed body (issue_fields stamp_text (fresh c.args.number c.args.kind body c.at.result)) c.push_body.new.fields c.in_ok-report.report c.size_of-start.result c.size_of-end.result
-    c.in_ok-push_body.ensures (c.in_ok-report.ensures ∙ c.in_ok-push_issue.ensures body) c.size_of-end.ensures.fields c.size_of-start.ensures.size c.size_of-end.ensures.size).part
+    (body-stands c.in_ok-printed.printed body
+    (issue_fields stamp_text (fresh c.args.number c.args.kind body c.at.result)) c.push_body.new.fields
+    c.in_ok-report.report c.size_of-start.result c.size_of-end.result
+    c.in_ok-push_body.ensures (c.in_ok-report.ensures ∙ c.in_ok-push_issue.ensures body) c.size_of-end.ensures.fields
+    c.size_of-start.ensures.size c.size_of-end.ensures.size).part
 
 pub returns-clause-report : goal.returns-clause-report
 returns-clause-report c =
     let body = issued_body c.args.body.now in
     c.in_ok-report.ensures
     ∙ c.in_ok-push_issue.ensures body
-    ∙ ap (λ (fs : List Field). fs ++ issue_fields stamp_text (fresh c.args.number c.args.kind body c.at.result)) (c.in_ok-push_body.ensures
+    ∙ ap (λ (fs : List Field). fs ++ issue_fields stamp_text (fresh c.args.number c.args.kind body c.at.result))
+    (c.in_ok-push_body.ensures
     ∙ ap (λ (fs : List Field). fs ++ body) c.in_ok-printed.ensures)
-    ∙ ap (λ (at : ℕ). frame_fields stamp_text c.args.names.now.gate c.args.names.now.client (fresh c.args.number c.args.kind body at)) c.at.ensures
+    ∙ ap (λ (at : ℕ). frame_fields stamp_text c.args.names.now.gate c.args.names.now.client
+    (fresh c.args.number c.args.kind body at)) c.at.ensures
 
 pub returns-clause-body : goal.returns-clause-body
 returns-clause-body c =
     let body = issued_body c.args.body.now in
-    (body-stands c.in_ok-printed.printed body (issue_fields stamp_text (fresh c.args.number c.args.kind body c.at.result)) c.push_body.new.fields c.in_ok-report.report c.size_of-start.result c.size_of-end.result
-    c.in_ok-push_body.ensures (c.in_ok-report.ensures ∙ c.in_ok-push_issue.ensures body) c.size_of-end.ensures.fields c.size_of-start.ensures.size c.size_of-end.ensures.size).same
+    (body-stands c.in_ok-printed.printed body
+    (issue_fields stamp_text (fresh c.args.number c.args.kind body c.at.result)) c.push_body.new.fields
+    c.in_ok-report.report c.size_of-start.result c.size_of-end.result
+    c.in_ok-push_body.ensures (c.in_ok-report.ensures ∙ c.in_ok-push_issue.ensures body) c.size_of-end.ensures.fields
+    c.size_of-start.ensures.size c.size_of-end.ensures.size).same

@@ -5,4 +5,5 @@ use Rattle.session_writing.proofs.output.append_written.Given as goal
 
 -- the outputs passed so far
 abbrev pub invariant-loop-out : goal.invariant-loop-out
-invariant-loop-out l = map told_bytes l.all.items ≡ map told_bytes l.fn.all.items ++ map (told_of_out l.names.gate l.names.client) (take l.out-index l.outs)
+invariant-loop-out l = map told_bytes l.all.items
+    ≡ map told_bytes l.fn.all.items ++ map (told_of_out l.names.gate l.names.client) (take l.out-index l.outs)

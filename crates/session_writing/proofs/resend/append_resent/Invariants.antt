@@ -10,5 +10,8 @@ abbrev pub invariant-loop-place : goal.invariant-loop-place
 invariant-loop-place l = record {
   heads : HeadsFit l.resent l.names.gate l.names.client l.now;
   number : l.number ≡ l.fn.first + l.place-index;
-  told : map told_bytes l.outs.items ++ told_frames l.names.gate l.names.client (law.resent l.now l.start l.number (slots_at l.text (drop l.place-index l.places))) ≡ map told_bytes l.fn.outs.items ++ told_frames l.names.gate l.names.client (law.resent l.now l.fn.first l.fn.first (slots_at l.text l.places));
+  told : map told_bytes l.outs.items ++ told_frames l.names.gate l.names.client
+      (law.resent l.now l.start l.number (slots_at l.text (drop l.place-index l.places)))
+      ≡ map told_bytes l.fn.outs.items ++ told_frames l.names.gate l.names.client
+      (law.resent l.now l.fn.first l.fn.first (slots_at l.text l.places));
 }

@@ -11,5 +11,6 @@ use Rattle.settings_file.proofs.client.read_client.Goals as goal
 pub entry-requires : goal.entry-requires
 entry-requires c =
     let rule = own_name (codes "comp") (map view c.args.earlier.now) in
-    let found = found-text (λ s. s.now) c.own_name.result c.in-Some.comp rule (view c.args.table.now) c.own_name.ensures c.in-Some.is in
+    let found = found-text (λ s. s.now) c.own_name.result c.in-Some.comp rule
+    (view c.args.table.now) c.own_name.ensures c.in-Some.is in
     record { name = named c.in-Some.comp.now (and_parts (is_name c.in-Some.comp.now) _ found.1).0 }

@@ -13,4 +13,5 @@ returns-then-is_between c =
     let ts = c.args.tables.now in
     c.is_each_a_table.ensures
     ∙ sym (all-seen view is_table ts)
-    ∙ ap (λ (b : Bool). b && list_all is_table (map view ts)) (c.if-is_between.ensures ∙ ap (is_between 1 c.args.most) (sym (length-map ts view)))
+    ∙ ap (λ (b : Bool). b && list_all is_table (map view ts))
+    (c.if-is_between.ensures ∙ ap (is_between 1 c.args.most) (sym (length-map ts view)))

@@ -5,4 +5,5 @@ use Rattle.settings_file.proofs.Lists.{any-seen}
 use Rattle.settings_file.proofs.texts.is_text_of.Goals as goal
 
 pub returns : goal.returns
-returns c = c.have_text.ensures ∙ sym (any-seen view (λ t. is_this c.args.text.now (text_in c.args.key.now t)) c.args.tables.now)
+returns c = c.have_text.ensures ∙ sym (any-seen view
+    (λ t. is_this c.args.text.now (text_in c.args.key.now t)) c.args.tables.now)

@@ -9,7 +9,10 @@ pub returns-clause-told : goal.returns-clause-told
 returns-clause-told t c =
     IfOk-weaker c.push_rejects.result _ _
     (λ nothing told.
-    told-each c.args.shown.now c.args.replaces.now c.first-item.result c.of_replace.result (cxl_rej_number c.args.code) c.args.why.now c.args.further.now c.is_empty.result
-    (map body_fields c.args.bodies.now.items) (map body_fields c.push_reject.new.bodies.items) (map body_fields c.push_rejects.new.bodies.items)
-    c.first-item.is c.in-len1-up.len_at_least c.of_replace.ensures c.is_empty.ensures c.in_ok-push_reject.ensures.told told)
+    told-each c.args.shown.now c.args.replaces.now c.first-item.result c.of_replace.result
+    (cxl_rej_number c.args.code) c.args.why.now c.args.further.now c.is_empty.result
+    (map body_fields c.args.bodies.now.items) (map body_fields c.push_reject.new.bodies.items)
+    (map body_fields c.push_rejects.new.bodies.items)
+    c.first-item.is c.in-len1-up.len_at_least c.of_replace.ensures c.is_empty.ensures c.in_ok-push_reject.ensures.told
+    told)
     c.push_rejects.ensures.told

@@ -7,6 +7,8 @@ use Rattle.to_client.proofs.endings.push_cancel_rejected.Goals as goal
 
 pub returns-in_ok-push_reject-clause-told : goal.returns-in_ok-push_reject-clause-told
 returns-in_ok-push_reject-clause-told c = λ replaces cancel s shows is.
-    c.in_ok-push_reject.ensures.told cancel (law.without_cancel s) is.cancel_is (without_cancel-shows c.args.shown.now c.args.pending.now replaces cancel s shows is)
-    ∙ ap (λ (ms : List Message). map body_fields c.args.bodies.now.items ++ ms) (sym (rejected c.args.shown.now c.args.pending.now replaces cancel s shows is))
+    c.in_ok-push_reject.ensures.told cancel (law.without_cancel s) is.cancel_is
+    (without_cancel-shows c.args.shown.now c.args.pending.now replaces cancel s shows is)
+    ∙ ap (λ (ms : List Message). map body_fields c.args.bodies.now.items ++ ms)
+    (sym (rejected c.args.shown.now c.args.pending.now replaces cancel s shows is))
     ∙ ap (λ (b : Bool). map body_fields c.args.bodies.now.items ++ law.cancel_rejected b s) (sym c.if-is_last.true)

@@ -10,6 +10,8 @@ pub returns-clause-told : goal.returns-clause-told
 returns-clause-told c =
     IfOk-weaker c.push_rejects.result _ _
     (λ nothing told replaces cancel s shows is.
-    told replaces (option_to_list cancel) s is.replaces_are is.are_replaces (rest-shows c.args.shown.now c.args.pending.now replaces cancel s shows is)
-    ∙ ap (λ (ms : List Message). map body_fields c.args.bodies.now.items ++ ms) (sym (not_replaced-each c.args.shown.now c.args.pending.now replaces cancel s shows is (c.args.reason ∷ []))))
+    told replaces (option_to_list cancel) s is.replaces_are is.are_replaces
+    (rest-shows c.args.shown.now c.args.pending.now replaces cancel s shows is)
+    ∙ ap (λ (ms : List Message). map body_fields c.args.bodies.now.items ++ ms)
+    (sym (not_replaced-each c.args.shown.now c.args.pending.now replaces cancel s shows is (c.args.reason ∷ []))))
     c.push_rejects.ensures.told

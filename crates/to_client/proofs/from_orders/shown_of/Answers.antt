@@ -23,8 +23,10 @@ returns c = record {
   is_refused = search rules;
   cancel =
       ap (λ (o : OrderRecord). list_any law.is_cancel (pending o)) (sym c.order.view_is)
-      ∙ any-cancel-seen c.order.inside.client c.order.inside.order_id c.order.inside.replaces c.order.inside.cancel ∙ sym c.is_some.ensures;
+      ∙ any-cancel-seen c.order.inside.client c.order.inside.order_id c.order.inside.replaces c.order.inside.cancel
+      ∙ sym c.is_some.ensures;
   replace =
       ap (λ (o : OrderRecord). list_any (λ (q : Entry). is_replace q.message) (pending o)) (sym c.order.view_is)
-      ∙ any-replace-seen c.order.inside.client c.order.inside.order_id c.order.inside.replaces c.order.inside.cancel ∙ sym (ap not c.is_empty.ensures);
+      ∙ any-replace-seen c.order.inside.client c.order.inside.order_id c.order.inside.replaces c.order.inside.cancel
+      ∙ sym (ap not c.is_empty.ensures);
 }

@@ -8,6 +8,7 @@ use Rattle.to_client.proofs.refusing.refusal.Goals as goal
 pub returns : goal.returns
 returns c = record {
   told = IfOk-weaker c.refused.result _ _
-      (λ r is. ap report_fields is ∙ refusal-told c.args.order_id c.args.exec_id (ord_rej_number c.args.code) c.args.why c.args.order.now)
+      (λ r is. ap report_fields is ∙ refusal-told c.args.order_id c.args.exec_id
+      (ord_rej_number c.args.code) c.args.why c.args.order.now)
       c.refused.ensures;
 }

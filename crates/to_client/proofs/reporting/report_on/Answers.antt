@@ -8,6 +8,7 @@ use Rattle.to_client.proofs.reporting.report_on.Goals as goal
 pub returns : goal.returns
 returns c = record {
   told = IfOk-weaker c.filled_in.result _ _
-      (λ r is o s occasion shows. ap (λ (r : Report). report_fields r) is ∙ report-told c.args.number c.args.details.now c.args.request.now c.args.shown.now o s occasion shows)
+      (λ r is o s occasion shows. ap (λ (r : Report). report_fields r) is
+      ∙ report-told c.args.number c.args.details.now c.args.request.now c.args.shown.now o s occasion shows)
       c.filled_in.ensures;
 }

@@ -7,5 +7,6 @@ pub returns : goal.returns
 returns c =
     let q = c.args.request.now in
     IfOk-weaker c.report_on.result _ _
-    (λ r tells e s is shows. pending-told q.kind c.args.number c.plain-details.result q c.with_request-shown.result r e s (search rules) is.kind tells is (c.with_request-shown.ensures e s is.kind shows))
+    (λ r tells e s is shows. pending-told q.kind c.args.number c.plain-details.result q c.with_request-shown.result r e
+    s (search rules) is.kind tells is (c.with_request-shown.ensures e s is.kind shows))
     c.report_on.ensures.told

@@ -42,7 +42,8 @@ returns-in_err-price-clause-verdict c =
       instruction = search rules;
       capacity = search rules;
     } in
-    let verdict = by_price m c.in_ok-shares.shares passes (search rules) (search rules) ∙ price-refused m.price c.in_err-price.field-0.0 (search rules) in
+    let verdict = by_price m c.in_ok-shares.shares passes (search rules) (search rules)
+    ∙ price-refused m.price c.in_err-price.field-0.0 (search rules) in
     search (rules, verdict)
 
 pub returns-clause-verdict : goal.returns-clause-verdict
@@ -56,7 +57,8 @@ returns-clause-verdict c =
       instruction = search rules;
       capacity = search rules;
     } in
-    by_price m c.in_ok-shares.shares passes (search rules) (search rules) ∙ price-taken m.price c.in_ok-price.price (search rules)
+    by_price m c.in_ok-shares.shares passes (search rules) (search rules)
+    ∙ price-taken m.price c.in_ok-price.price (search rules)
 
 pub returns-clause-asks : goal.returns-clause-asks
 returns-clause-asks c =

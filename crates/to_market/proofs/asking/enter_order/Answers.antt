@@ -48,4 +48,5 @@ returns-clause-says c =
       cross = refl;
       customer = refl;
     } in
-    λ m asks order order_of. rw (c.bytes.ensures.bytes, c.count.ensures.value, c.units.ensures.value) (says_what_is_asked ask terms enter m order order_of asks enters)
+    λ m asks order order_of. rw (c.bytes.ensures.bytes, c.count.ensures.value, c.units.ensures.value)
+    (says_what_is_asked ask terms enter m order order_of asks enters)

@@ -1,6 +1,8 @@
 use Rattle.std.proofs.Common.{rules, ◌∙◌}
 use Rattle.to_market.proofs.Rows.{price-limit}
-use Rattle.to_market.proofs.RequestVerdict.{AsksToReplace-fields, PassesFields, PassesKind, by_changes, by_instruction, by_life_time, by_limit, by_minimum, by_none, by_quantity, by_token, by_total, by_type, other_terms, price_refused}
+use Rattle.to_market.proofs.RequestVerdict.{AsksToReplace-fields, PassesFields, PassesKind, by_changes, by_instruction}
+use Rattle.to_market.proofs.RequestVerdict.{by_life_time, by_limit, by_minimum, by_none, by_quantity, by_token}
+use Rattle.to_market.proofs.RequestVerdict.{by_total, by_type, other_terms, price_refused}
 use Rattle.to_market.proofs.requests.change_of.Goals as goal
 
 pub returns-in_err-refuse_if-clause-verdict : goal.returns-in_err-refuse_if-clause-verdict
@@ -8,7 +10,8 @@ returns-in_err-refuse_if-clause-verdict c =
     let m = c.args.request.now in
     let o = c.args.order.now in
     let refused = other_terms o c.args.given m (search rules) in
-    λ used n port reaches read. let verdict = by_changes used n o port c.args.given m reaches read ∙ refused in search (rules, verdict)
+    λ used n port reaches read. let verdict = by_changes used n o port c.args.given m reaches read ∙ refused in
+    search (rules, verdict)
 
 pub returns-in_err-shares-clause-verdict : goal.returns-in_err-shares-clause-verdict
 returns-in_err-shares-clause-verdict c =
@@ -21,7 +24,8 @@ returns-in_err-shares-clause-verdict c =
       instruction = search rules;
     } in
     let refused = by_quantity o c.args.given m passes (search rules) in
-    λ used n port reaches read. let verdict = by_changes used n o port c.args.given m reaches read ∙ refused in search (rules, verdict)
+    λ used n port reaches read. let verdict = by_changes used n o port c.args.given m reaches read ∙ refused in
+    search (rules, verdict)
 
 pub returns-in_err-price-clause-verdict : goal.returns-in_err-price-clause-verdict
 returns-in_err-price-clause-verdict c =
@@ -33,8 +37,10 @@ returns-in_err-price-clause-verdict c =
       life_time = search rules;
       instruction = search rules;
     } in
-    let refused = price_refused o c.args.given m c.in_ok-shares.shares c.in_err-price.field-0.0 passes (search rules) (search rules) (search rules) in
-    λ used n port reaches read. let verdict = by_changes used n o port c.args.given m reaches read ∙ refused in search (rules, verdict)
+    let refused = price_refused o c.args.given m c.in_ok-shares.shares c.in_err-price.field-0.0 passes (search rules)
+    (search rules) (search rules) in
+    λ used n port reaches read. let verdict = by_changes used n o port c.args.given m reaches read ∙ refused in
+    search (rules, verdict)
 
 pub returns-clause-asks : goal.returns-clause-asks
 returns-clause-asks c =
@@ -52,21 +58,24 @@ returns-in_err-refuse_if-2-clause-verdict c =
     let m = c.args.request.now in
     let o = c.args.order.now in
     let refused = by_type o c.args.given m (search rules) (search rules) in
-    λ used n port reaches read. let verdict = by_changes used n o port c.args.given m reaches read ∙ refused in search (rules, verdict)
+    λ used n port reaches read. let verdict = by_changes used n o port c.args.given m reaches read ∙ refused in
+    search (rules, verdict)
 
 pub returns-in_err-time_in_force-clause-verdict : goal.returns-in_err-time_in_force-clause-verdict
 returns-in_err-time_in_force-clause-verdict c =
     let m = c.args.request.now in
     let o = c.args.order.now in
     let refused = by_life_time o c.args.given m (search rules) (search rules) (search rules) in
-    λ used n port reaches read. let verdict = by_changes used n o port c.args.given m reaches read ∙ refused in search (rules, verdict)
+    λ used n port reaches read. let verdict = by_changes used n o port c.args.given m reaches read ∙ refused in
+    search (rules, verdict)
 
 pub returns-in_err-display-clause-verdict : goal.returns-in_err-display-clause-verdict
 returns-in_err-display-clause-verdict c =
     let m = c.args.request.now in
     let o = c.args.order.now in
     let refused = by_instruction o c.args.given m (search rules) (search rules) (search rules) (search rules) in
-    λ used n port reaches read. let verdict = by_changes used n o port c.args.given m reaches read ∙ refused in search (rules, verdict)
+    λ used n port reaches read. let verdict = by_changes used n o port c.args.given m reaches read ∙ refused in
+    search (rules, verdict)
 
 pub returns-in_err-minimum_quantity-clause-verdict : goal.returns-in_err-minimum_quantity-clause-verdict
 returns-in_err-minimum_quantity-clause-verdict c =
@@ -79,7 +88,8 @@ returns-in_err-minimum_quantity-clause-verdict c =
       instruction = search rules;
     } in
     let refused = by_minimum o c.args.given m c.in_ok-shares.shares passes (search rules) (search rules) in
-    λ used n port reaches read. let verdict = by_changes used n o port c.args.given m reaches read ∙ refused in search (rules, verdict)
+    λ used n port reaches read. let verdict = by_changes used n o port c.args.given m reaches read ∙ refused in
+    search (rules, verdict)
 
 pub returns-in_err-refuse_if-3-clause-verdict : goal.returns-in_err-refuse_if-3-clause-verdict
 returns-in_err-refuse_if-3-clause-verdict c =
@@ -92,7 +102,8 @@ returns-in_err-refuse_if-3-clause-verdict c =
       read = search rules;
     } in
     let refused = by_total o c.args.given m c.in_ok-shares.shares c.in_ok-price.price passes (search rules) in
-    λ used n port reaches read. let verdict = by_changes used n o port c.args.given m reaches read ∙ refused in search (rules, verdict)
+    λ used n port reaches read. let verdict = by_changes used n o port c.args.given m reaches read ∙ refused in
+    search (rules, verdict)
 
 pub returns-in_err-refuse_if-4-clause-verdict : goal.returns-in_err-refuse_if-4-clause-verdict
 returns-in_err-refuse_if-4-clause-verdict c =
@@ -104,8 +115,10 @@ returns-in_err-refuse_if-4-clause-verdict c =
       good = search rules;
       read = search rules;
     } in
-    let refused = by_limit o c.args.given m c.in_ok-shares.shares c.in_ok-price.price passes (search rules) (search rules) in
-    λ used n port reaches read. let verdict = by_changes used n o port c.args.given m reaches read ∙ refused in search (rules, verdict)
+    let refused = by_limit o c.args.given m c.in_ok-shares.shares c.in_ok-price.price passes (search rules)
+    (search rules) in
+    λ used n port reaches read. let verdict = by_changes used n o port c.args.given m reaches read ∙ refused in
+    search (rules, verdict)
 
 pub returns-in_err-token-clause-verdict : goal.returns-in_err-token-clause-verdict
 returns-in_err-token-clause-verdict c =
@@ -117,8 +130,10 @@ returns-in_err-token-clause-verdict c =
       good = search rules;
       read = search rules;
     } in
-    let refused = by_token o c.args.given m c.in_ok-shares.shares c.in_ok-price.price passes (search rules) (search rules) (search rules) in
-    λ used n port reaches read. let verdict = by_changes used n o port c.args.given m reaches read ∙ refused in search (rules, verdict)
+    let refused = by_token o c.args.given m c.in_ok-shares.shares c.in_ok-price.price passes (search rules)
+    (search rules) (search rules) in
+    λ used n port reaches read. let verdict = by_changes used n o port c.args.given m reaches read ∙ refused in
+    search (rules, verdict)
 
 pub returns-clause-verdict : goal.returns-clause-verdict
 returns-clause-verdict c =
@@ -130,5 +145,6 @@ returns-clause-verdict c =
       good = search rules;
       read = search rules;
     } in
-    let taken = by_none o c.args.given m c.in_ok-shares.shares c.in_ok-price.price passes (search rules) (search rules) (search rules) in
+    let taken = by_none o c.args.given m c.in_ok-shares.shares c.in_ok-price.price passes (search rules) (search rules)
+    (search rules) in
     λ used n port reaches read. by_changes used n o port c.args.given m reaches read ∙ taken

@@ -35,4 +35,5 @@ returns-clause-says c =
       minimum = refl;
     } in
     λ m asks order standing order_of leads.
-    rw (c.bytes.ensures.bytes, c.count.ensures.value, c.units.ensures.value) (says_replace ask c.args.from.now message m order standing order_of asks has leads)
+    rw (c.bytes.ensures.bytes, c.count.ensures.value, c.units.ensures.value)
+    (says_replace ask c.args.from.now message m order standing order_of asks has leads)

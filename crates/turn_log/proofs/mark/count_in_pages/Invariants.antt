@@ -6,7 +6,8 @@ use Rattle.journal_pages.specs.declared.version.Version.TheVariants.{Two}
 use Rattle.turn_log.proofs.mark.count_in_pages.Given as goal
 
 abbrev pub invariant-loop-page : goal.invariant-loop-page
-invariant-loop-page l = (l.count + length (day_records Two (texts l.rest))) % 2 ^ 64 ≡ length (day_records Two (texts l.pages)) % 2 ^ 64
+invariant-loop-page l = (l.count + length (day_records Two (texts l.rest))) % 2 ^ 64
+    ≡ length (day_records Two (texts l.pages)) % 2 ^ 64
 
 abbrev pub decreases-loop-page : goal.decreases-loop-page
 decreases-loop-page l = length l.rest

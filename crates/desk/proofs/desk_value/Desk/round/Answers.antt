@@ -4,14 +4,22 @@ use Rattle.desk_steps.proofs.Onward.{round-on}
 use Rattle.desk.proofs.desk_value.Desk.round.Goals as goal
 
 pub round-requires : goal.round-requires
-round-requires g c = record { few = few-seats g.K.DeskName.inlets g.K.DeskName.outlets (record { recorded = c.self.inside.recorded; side = c.self.inside.side }) c.self.invariant.0 }
+round-requires g c = record {
+  few = few-seats g.K.DeskName.inlets g.K.DeskName.outlets
+      (record { recorded = c.self.inside.recorded; side = c.self.inside.side }) c.self.invariant.0;
+}
 
 pub invariant_of-self : goal.invariant_of-self
 invariant_of-self g c = (
-  round-agrees g.K.DeskName.inlets g.K.DeskName.outlets c.round.result (record { recorded = c.self.inside.recorded; side = c.self.inside.side })
-      (record { recorded = c.round.new.recorded; side = c.round.new.side }) c.self.invariant.0 c.round.ensures.ok c.round.ensures.err,
-  ahead-on c.self.inside.journal (record { recorded = c.self.inside.recorded; side = c.self.inside.side }) (record { recorded = c.round.new.recorded; side = c.round.new.side })
-      (round-on c.round.result (record { recorded = c.self.inside.recorded; side = c.self.inside.side }) (record { recorded = c.round.new.recorded; side = c.round.new.side }) c.round.ensures.ok c.round.ensures.err) c.self.invariant.1,
+  round-agrees g.K.DeskName.inlets g.K.DeskName.outlets c.round.result
+      (record { recorded = c.self.inside.recorded; side = c.self.inside.side })
+      (record { recorded = c.round.new.recorded; side = c.round.new.side }) c.self.invariant.0 c.round.ensures.ok
+      c.round.ensures.err,
+  ahead-on c.self.inside.journal (record { recorded = c.self.inside.recorded; side = c.self.inside.side })
+      (record { recorded = c.round.new.recorded; side = c.round.new.side })
+      (round-on c.round.result (record { recorded = c.self.inside.recorded; side = c.self.inside.side })
+      (record { recorded = c.round.new.recorded; side = c.round.new.side }) c.round.ensures.ok c.round.ensures.err)
+      c.self.invariant.1,
 )
 
 pub returns-clause-ok : goal.returns-clause-ok

@@ -19,13 +19,15 @@ returns-clause-told g c = elim c.match-self.branch [
   | in-Put w ↦ (
       let named = rw w.in-Put.is at c.self.invariant in
       rw (w.seats-is, w.ways-is, ← c.self.view_is, w.in-Put.is)
-      (put-told g.K.DeskName.inlets g.K.DeskName.outlets c.self.inside.at _ w.in-Put.put c.args.seats.now.items w.look_after.new.seats.items c.args.ways.now.items
+      (put-told g.K.DeskName.inlets g.K.DeskName.outlets c.self.inside.at _ w.in-Put.put c.args.seats.now.items
+      w.look_after.new.seats.items c.args.ways.now.items
       c.requires.seats named w.look_after.ensures.looked w.look_after.ensures.all)
       )
   | in-Took w ↦ (
       let named = rw w.in-Took.is at c.self.invariant in
       rw (w.seats-is, w.ways-is, ← c.self.view_is, w.in-Took.is)
-      (took-told g.K.DeskName.inlets g.K.DeskName.outlets c.self.inside.at _ w.in-Took.took c.args.ways.now.items w.look_beside.new.ways.items c.args.seats.now.items
+      (took-told g.K.DeskName.inlets g.K.DeskName.outlets c.self.inside.at _ w.in-Took.took c.args.ways.now.items
+      w.look_beside.new.ways.items c.args.seats.now.items
       c.requires.ways named w.look_beside.ensures.looked w.look_beside.ensures.prefix w.look_beside.ensures.released)
       )
 ]

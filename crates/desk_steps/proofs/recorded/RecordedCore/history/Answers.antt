@@ -7,4 +7,5 @@ use Rattle.desk_steps.proofs.recorded.RecordedCore.history.Goals as goal
 
 pub returns-clause-holds : goal.returns-clause-holds
 returns-clause-holds g c =
-    subst (λ (z : Recorded). Holds z.settings (turns z.kept)) c.self.view_is (holds-after c.self.inside.settings (turns c.self.inside.history) c.self.inside.core c.self.invariant)
+    subst (λ (z : Recorded). Holds z.settings (turns z.kept)) c.self.view_is
+    (holds-after c.self.inside.settings (turns c.self.inside.history) c.self.inside.core c.self.invariant)

@@ -8,4 +8,5 @@ pub returns : goal.returns
 returns c = λ yes.
     let skip = c.self.invariant.1 (c.args.tag % 64) (omega arith) in
     ap (λ (fields : List Field). stood_before c.args.tag (take c.args.count fields)) (sym c.self.view_is)
-    ∙ new_behind c.self.inside.text.items c.args.tag c.args.count _ c.self.inside.spans.items skip.elsewhere (c.is_new_behind.ensures yes)
+    ∙ new_behind c.self.inside.text.items c.args.tag c.args.count _ c.self.inside.spans.items skip.elsewhere
+    (c.is_new_behind.ensures yes)

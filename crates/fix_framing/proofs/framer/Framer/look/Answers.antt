@@ -22,7 +22,8 @@ split_at-requires c =
     let f = c.self.inside in
     let end = c.args.self.now.end in
     let seen = subst (λ (s : Option ℕ). IsSeen s end) c.in-Some.is c.requires in
-    let there = size_there c.in-Some.size f.is_over f.buffer.kept.held end (ap (λ (s : ReaderStanding). s.end) c.self.view_is) seen in
+    let there = size_there c.in-Some.size f.is_over f.buffer.kept.held end
+    (ap (λ (s : ReaderStanding). s.end) c.self.view_is) seen in
     subst (λ (b : List ℕ). c.in-Some.size ≤ length b) (sym c.held.ensures) there
 
 pub known-requires : goal.known-requires
@@ -45,4 +46,5 @@ returns c =
     let seen = subst (λ (s : Option ℕ). IsSeen s end) c.in-Some.is c.requires in
     let fields = seen_fields c.in-Some.size held end is seen in
     let text : c.split_at.result.0.now ≡ take c.in-Some.size held = search rules in
-    first_of c.split_at.result.0.now (take c.in-Some.size held) fields.0 (lent_fields c.known.result) _ _ text fields.1 c.known.ensures fields.2
+    first_of c.split_at.result.0.now (take c.in-Some.size held) fields.0
+    (lent_fields c.known.result) _ _ text fields.1 c.known.ensures fields.2

@@ -7,5 +7,6 @@ pub returns-else-self : goal.returns-else-self
 returns-else-self c = λ old sought.
     let f = c.self.inside in
     none_framed old c.args.self.now f.buffer.kept.held
-    (open_end f.is_over f.buffer.kept.held c.args.self.now.end (ap (λ (s : ReaderStanding). s.end) c.self.view_is) c.if-self.false)
+    (open_end f.is_over f.buffer.kept.held c.args.self.now.end
+    (ap (λ (s : ReaderStanding). s.end) c.self.view_is) c.if-self.false)
     c.requires sought

@@ -11,8 +11,11 @@ returns-clause-sought c =
     let held = c.held.result.now in
     let same : held ≡ f.buffer.kept.held = c.held.ensures in
     let was : c.args.self.now.end ≡ Rest held =
-    open_end f.is_over f.buffer.kept.held c.args.self.now.end (ap (λ (s : ReaderStanding). s.end) c.self.view_is) c.if-self.false ∙ ap (λ (s : List ℕ). Rest s) (sym same) in
-    sought c.args.self.now _ held next.skipped next.size next.is_over was c.next_of-next.ensures.0 c.next_of-next.ensures.1
+    open_end f.is_over f.buffer.kept.held c.args.self.now.end
+    (ap (λ (s : ReaderStanding). s.end) c.self.view_is) c.if-self.false ∙ ap (λ (s : List ℕ). Rest s) (sym same) in
+    sought c.args.self.now _ held next.skipped next.size next.is_over was c.next_of-next.ensures.0
+    c.next_of-next.ensures.1
     (ap (end_of next.is_over) (c.pass.ensures.passes.held ∙ ap (drop next.skipped) (sym same)))
     (omega (arith, c.saturating_add-self-inside.ensures, ap (λ (s : ReaderStanding). s.skipped) c.self.view_is))
-    (subst (λ (k : BytesHeld). LetsGo next.skipped k c.pass.new.self.kept) (ap (λ (s : ReaderStanding). s.kept) c.self.view_is) c.pass.ensures.passes)
+    (subst (λ (k : BytesHeld). LetsGo next.skipped k c.pass.new.self.kept)
+    (ap (λ (s : ReaderStanding). s.kept) c.self.view_is) c.pass.ensures.passes)

@@ -12,17 +12,23 @@ pub returns-in-AwaitingLogon-clause-meets : goal.returns-in-AwaitingLogon-clause
 returns-in-AwaitingLogon-clause-meets c =
     let s = c.args.self.now.session in
     let phase : AwaitingLogon c.in-AwaitingLogon.field-0 ≡ s.phase = search rules in
-    subst (λ (p : Phase). IfOk c.on_first.result (λ turn. Meets s (by_rows (heard (at_moment c.args.at s)) (message_rows s c.args.m.now p)) turn c.on_first.new.self.session)) phase c.on_first.ensures.meets
+    subst (λ (p : Phase). IfOk c.on_first.result
+    (λ turn. Meets s (by_rows (heard (at_moment c.args.at s)) (message_rows s c.args.m.now p)) turn
+    c.on_first.new.self.session)) phase c.on_first.ensures.meets
 
 pub returns-in-LoggedOn-clause-meets : goal.returns-in-LoggedOn-clause-meets
 returns-in-LoggedOn-clause-meets c =
     let s = c.args.self.now.session in
     let phase : LoggedOn c.in-LoggedOn.field-0 ≡ s.phase = search rules in
-    subst (λ (p : Phase). IfOk c.on_next.result (λ turn. Meets s (by_rows (heard (at_moment c.args.at s)) (message_rows s c.args.m.now p)) turn c.on_next.new.self.session)) phase c.on_next.ensures.meets
+    subst (λ (p : Phase). IfOk c.on_next.result
+    (λ turn. Meets s (by_rows (heard (at_moment c.args.at s)) (message_rows s c.args.m.now p)) turn
+    c.on_next.new.self.session)) phase c.on_next.ensures.meets
 
 pub returns-in-LoggedOn-clause-delivered : goal.returns-in-LoggedOn-clause-delivered
 returns-in-LoggedOn-clause-delivered c =
     let s = c.args.self.now.session in
     let m = c.args.m.now in
     let phase : LoggedOn c.in-LoggedOn.field-0 ≡ s.phase = search rules in
-    subst (λ (p : Phase). IfOk c.on_next.result (λ turn. turn.is_delivered ≡ true → (by_rows (heard (at_moment c.args.at s)) (message_rows s m p)).app ≡ Some (application_of m))) phase c.on_next.ensures.delivered
+    subst (λ (p : Phase). IfOk c.on_next.result
+    (λ turn. turn.is_delivered ≡ true → (by_rows (heard (at_moment c.args.at s)) (message_rows s m p)).app
+    ≡ Some (application_of m))) phase c.on_next.ensures.delivered

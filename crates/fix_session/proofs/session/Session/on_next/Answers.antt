@@ -10,13 +10,18 @@ use Rattle.fix_session.proofs.session.Session.on_next.Goals as goal
 
 pub deliver-requires : goal.deliver-requires
 deliver-requires c =
-    record { expected = delivery-little c.args.self.now.session c.args.at c.args.m.now c.judge-row.result (sym c.is_delivery.ensures ∙ c.if-is_delivery.true) c.judge-row.ensures.answer c.requires.expected }
+    record {
+      expected = delivery-little c.args.self.now.session c.args.at c.args.m.now c.judge-row.result
+          (sym c.is_delivery.ensures ∙ c.if-is_delivery.true) c.judge-row.ensures.answer c.requires.expected;
+    }
 
 pub returns-then-is_delivery-clause-meets : goal.returns-then-is_delivery-clause-meets
 returns-then-is_delivery-clause-meets c =
     let s = c.args.self.now.session in
-    subst (λ (a : Answer). Meets s (answered (heard (at_moment c.args.at s)) a) c.deliver.result c.deliver.new.self.session)
-    (sym (delivery-answer s c.args.m.now c.judge-row.result (sym c.is_delivery.ensures ∙ c.if-is_delivery.true) c.judge-row.ensures.answer))
+    subst (λ (a : Answer). Meets s (answered (heard (at_moment c.args.at s)) a) c.deliver.result
+    c.deliver.new.self.session)
+    (sym (delivery-answer s c.args.m.now c.judge-row.result
+    (sym c.is_delivery.ensures ∙ c.if-is_delivery.true) c.judge-row.ensures.answer))
     (c.deliver.ensures.meets c.args.m.now)
 
 pub take-requires : goal.take-requires

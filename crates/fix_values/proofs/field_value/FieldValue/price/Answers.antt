@@ -5,7 +5,8 @@ use Rattle.fix_values.proofs.field_value.FieldValue.price.Goals as goal
 
 pub invariant_of-result : goal.invariant_of-result
 invariant_of-result c =
-    inside-append (decimal (c.args.units / 10_000)) (fraction_text (c.args.units % 10_000)) (inside-decimal (c.args.units / 10_000) (omega arith)) (inside-fraction_text (c.args.units % 10_000))
+    inside-append (decimal (c.args.units / 10_000)) (fraction_text (c.args.units % 10_000))
+    (inside-decimal (c.args.units / 10_000) (omega arith)) (inside-fraction_text (c.args.units % 10_000))
 
 pub returns : goal.returns
 unfolding price_text

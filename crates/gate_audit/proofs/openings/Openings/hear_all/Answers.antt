@@ -9,8 +9,11 @@ use Rattle.gate_audit.proofs.openings.Openings.hear_all.Goals as goal
 
 pub returns-in_err-hear-clause-large : goal.returns-in_err-hear-clause-large
 returns-in_err-hear-clause-large c all of err has =
-    let before : List SaidToClient = reverse (map (said_to c.args.client) (take c.loop-report.report-index c.args.reports.now)) ++ all in
-    let own_error : IsErrOf {T = Unit {0}} {E = ReadingFault} (Err c.in_err-hear.field-0.0) TooLarge = search (rules, c.from_residual-in_err-hear.ensures, err) in
+    let before : List SaidToClient = reverse (map (said_to c.args.client)
+    (take c.loop-report.report-index c.args.reports.now)) ++ all in
+    let own_error : IsErrOf {T = Unit {0}} {E = ReadingFault} (Err c.in_err-hear.field-0.0) TooLarge =
+    search (rules, c.from_residual-in_err-hear.ensures, err) in
     c.in_err-hear.ensures.large before (c.loop-report.invariant all of) own_error
     (subst (λ (m : Message). HasTokenNumbers (said_to c.args.client m ∷ before)) (sym c.in_ok-fields.ensures.fields)
-    (has-next c.args.client c.args.reports.now c.loop-report.report-index c.report-item.result all c.loop-report-test.true c.report-item.is has))
+    (has-next c.args.client c.args.reports.now c.loop-report.report-index c.report-item.result all
+    c.loop-report-test.true c.report-item.is has))

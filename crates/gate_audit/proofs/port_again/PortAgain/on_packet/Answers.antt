@@ -8,7 +8,9 @@ returns-clause-again c =
     (λ u handled terms r again. record {
       link = again.link;
       session = c.on_packet-turn.ensures.leaves terms r.calls again.session;
-      handled = heard-more terms r.calls c.args.packet.now _ c.on_packet-turn.result c.message_of-message.result r.handled c.args.self.now.handled.items _
-          (c.on_packet-turn.ensures.answers terms r.calls again.session) c.message_of-message.ensures again.handled handled;
+      handled = heard-more terms r.calls c.args.packet.now _ c.on_packet-turn.result c.message_of-message.result
+          r.handled c.args.self.now.handled.items _
+          (c.on_packet-turn.ensures.answers terms r.calls again.session) c.message_of-message.ensures again.handled
+          handled;
     })
     c.push_message.ensures

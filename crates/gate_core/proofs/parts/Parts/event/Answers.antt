@@ -6,7 +6,8 @@ pub returns-in-ClientUp-clause-grows : goal.returns-in-ClientUp-clause-grows
 returns-in-ClientUp-clause-grows g c = grows-most 0 0 _ _ (omega arith) (omega arith) c.client_up.ensures.grows
 
 pub returns-in-ClientMessage-clause-grows : goal.returns-in-ClientMessage-clause-grows
-returns-in-ClientMessage-clause-grows g c = grows-most 3 0 _ _ (omega arith) (omega arith) c.client_message.ensures.grows
+returns-in-ClientMessage-clause-grows g c =
+    grows-most 3 0 _ _ (omega arith) (omega arith) c.client_message.ensures.grows
 
 pub returns-in-ClientGone-clause-grows : goal.returns-in-ClientGone-clause-grows
 returns-in-ClientGone-clause-grows g c = grows-most 0 0 _ _ (omega arith) (omega arith) c.client_gone.ensures.grows

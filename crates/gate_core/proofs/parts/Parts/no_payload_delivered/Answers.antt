@@ -20,7 +20,13 @@ returns-clause-step g c s v link packet given before =
     let p = c.args.place + 1 in
     let call : PortCall = OnPacket packet c.args.at in
     let between = c.send_again.new.self in
-    let new : Parts _ _ = record { clients = between.clients; ports = c.told_port.new.ports; client_ports = between.client_ports; orders = between.orders } in
+    let new : Parts _ _ = record {
+      clients = between.clients;
+      ports = c.told_port.new.ports;
+      client_ports =
+          between.client_ports;
+      orders = between.orders;
+    } in
     let outs = map link_out_seen c.in_ok-outs.outs.items in
     let again = c.in_ok-sent.ensures.sent s (port_called p call v) given.parts given.few in
     let calls = call ∷ sends c.args.at again.messages in
@@ -29,7 +35,8 @@ returns-clause-step g c s v link packet given before =
     let parts = with-calls s p calls v between again.sent.parts in
     subst (λ (b : Batch). Stepped s (PortPacket p link c.args.at packet) b v new)
     (sym (c.for_port.ensures ∙ ap (λ (n : ℕ). batch_of 0 [] [] n outs fault) c.at_place.ensures))
-    (port-heard reads-after s v p link c.args.at packet c.args.stood (option_to_list c.args.said) (map link_out_seen c.in_ok-sent.sent.items) fault outs c.args.self.now between new
+    (port-heard reads-after s v p link c.args.at packet c.args.stood (option_to_list c.args.said)
+    (map link_out_seen c.in_ok-sent.sent.items) fault outs c.args.self.now between new
     given before again
     (c.fault_of-fault.ensures ∙ ap fault_in state_is)
     (c.in_ok-outs.ensures.outs v.port_link parts.port_links)
@@ -40,11 +47,27 @@ returns-clause-step g c s v link packet given before =
 pub returns-in_err-outs-clause-grows : goal.returns-in_err-outs-clause-grows
 returns-in_err-outs-clause-grows g c =
     let between = c.send_again.new.self in
-    let new : Parts _ _ = record { clients = between.clients; ports = c.told_port.new.ports; client_ports = between.client_ports; orders = between.orders } in
-    grows-then 0 0 0 0 c.args.self.now between new c.send_again.ensures.grows (ports-grow between new c.told_port.ensures.length c.told_port.ensures.next c.told_port.ensures.settled refl refl refl)
+    let new : Parts _ _ = record {
+      clients = between.clients;
+      ports = c.told_port.new.ports;
+      client_ports =
+          between.client_ports;
+      orders = between.orders;
+    } in
+    grows-then 0 0 0 0 c.args.self.now between new c.send_again.ensures.grows
+    (ports-grow between new c.told_port.ensures.length c.told_port.ensures.next c.told_port.ensures.settled refl
+    refl refl)
 
 pub returns-clause-grows : goal.returns-clause-grows
 returns-clause-grows g c =
     let between = c.send_again.new.self in
-    let new : Parts _ _ = record { clients = between.clients; ports = c.told_port.new.ports; client_ports = between.client_ports; orders = between.orders } in
-    grows-then 0 0 0 0 c.args.self.now between new c.send_again.ensures.grows (ports-grow between new c.told_port.ensures.length c.told_port.ensures.next c.told_port.ensures.settled refl refl refl)
+    let new : Parts _ _ = record {
+      clients = between.clients;
+      ports = c.told_port.new.ports;
+      client_ports =
+          between.client_ports;
+      orders = between.orders;
+    } in
+    grows-then 0 0 0 0 c.args.self.now between new c.send_again.ensures.grows
+    (ports-grow between new c.told_port.ensures.length c.told_port.ensures.next c.told_port.ensures.settled refl
+    refl refl)

@@ -16,11 +16,16 @@ returns-in-Told-Some-default-clause-step g c =
     (λ b step s v link packet given.
     let p = c.args.place + 1 in
     let w : Lists = port_called p (OnPacket packet c.args.at) v in
-    let judged : PayloadIsJudged s p c.args.payload.now c.in_ok-client.field-0 w c.judge.new.self = c.in_ok-client.ensures.turn s w given.few given.parts in
-    let told = subst (λ (j : Judged). PayloadIsJudged s p c.args.payload.now j w c.judge.new.self) c.in-Told-Some-default.is judged in
-    let to_client = subst (λ (q : Option ℕ). PayloadIsTold s p c.args.payload.now q (map body_fields c.in-Told-Some-default.bodies.items) w c.judge.new.self) c.in-Told-Some-default.client-is told in
+    let judged : PayloadIsJudged s p c.args.payload.now c.in_ok-client.field-0 w c.judge.new.self =
+    c.in_ok-client.ensures.turn s w given.few given.parts in
+    let told = subst (λ (j : Judged). PayloadIsJudged s p c.args.payload.now j w c.judge.new.self)
+    c.in-Told-Some-default.is judged in
+    let to_client = subst (λ (q : Option ℕ). PayloadIsTold s p c.args.payload.now q
+    (map body_fields c.in-Told-Some-default.bodies.items) w c.judge.new.self) c.in-Told-Some-default.client-is told
+    in
     step s v link packet c.args.payload.now c.args.self.now given
-    (subst (λ (xs : List AppBody). PayloadIsTold s p c.args.payload.now (Some c.in-Told-Some-default.client) (map body_fields xs) w c.judge.new.self) (sym c.deref.ensures.value) to_client))
+    (subst (λ (xs : List AppBody). PayloadIsTold s p c.args.payload.now (Some c.in-Told-Some-default.client)
+    (map body_fields xs) w c.judge.new.self) (sym c.deref.ensures.value) to_client))
     c.tell.ensures.step
 
 pub returns-in-Told-Some-default-clause-grows : goal.returns-in-Told-Some-default-clause-grows
@@ -33,15 +38,20 @@ returns-in-Told-None-default-clause-step g c =
     let p = c.args.place + 1 in
     let w : Lists = port_called p (OnPacket packet c.args.at) v in
     let bs = map body_fields c.in-Told-None-default.bodies.items in
-    let judged : PayloadIsJudged s p c.args.payload.now c.in_ok-client.field-0 w c.judge.new.self = c.in_ok-client.ensures.turn s w given.few given.parts in
-    let told = subst (λ (j : Judged). PayloadIsJudged s p c.args.payload.now j w c.judge.new.self) c.in-Told-None-default.is judged in
-    let to_nobody = subst (λ (q : Option ℕ). PayloadIsTold s p c.args.payload.now q bs w c.judge.new.self) c.in-Told-None-default.client-is told in
+    let judged : PayloadIsJudged s p c.args.payload.now c.in_ok-client.field-0 w c.judge.new.self =
+    c.in_ok-client.ensures.turn s w given.few given.parts in
+    let told = subst (λ (j : Judged). PayloadIsJudged s p c.args.payload.now j w c.judge.new.self)
+    c.in-Told-None-default.is judged in
+    let to_nobody = subst (λ (q : Option ℕ). PayloadIsTold s p c.args.payload.now q bs w c.judge.new.self)
+    c.in-Told-None-default.client-is told in
     step s v link c.args.at packet c.args.payload.now c.args.self.now given
-    (subst (λ (xs : List Message). PayloadIsTold s p c.args.payload.now None xs w c.judge.new.self) (to_nobody.nobody refl) to_nobody))
+    (subst (λ (xs : List Message). PayloadIsTold s p c.args.payload.now None xs w c.judge.new.self)
+    (to_nobody.nobody refl) to_nobody))
     c.tell_nobody.ensures.step
 
 pub returns-in-Told-None-default-clause-grows : goal.returns-in-Told-None-default-clause-grows
-returns-in-Told-None-default-clause-grows g c = grows-then 3 0 0 0 _ _ _ c.judge.ensures.grows c.tell_nobody.ensures.grows
+returns-in-Told-None-default-clause-grows g c =
+    grows-then 3 0 0 0 _ _ _ c.judge.ensures.grows c.tell_nobody.ensures.grows
 
 pub returns-in-Faulty-clause-step : goal.returns-in-Faulty-clause-step
 returns-in-Faulty-clause-step g c =
@@ -49,7 +59,8 @@ returns-in-Faulty-clause-step g c =
     (λ b step s v link packet given.
     let p = c.args.place + 1 in
     let w : Lists = port_called p (OnPacket packet c.args.at) v in
-    let judged : PayloadIsJudged s p c.args.payload.now c.in_ok-client.field-0 w c.judge.new.self = c.in_ok-client.ensures.turn s w given.few given.parts in
+    let judged : PayloadIsJudged s p c.args.payload.now c.in_ok-client.field-0 w c.judge.new.self =
+    c.in_ok-client.ensures.turn s w given.few given.parts in
     step s v link c.args.at packet c.args.payload.now c.args.self.now given
     (subst (λ (j : Judged). PayloadIsJudged s p c.args.payload.now j w c.judge.new.self) c.in-Faulty.is judged))
     c.fault.ensures.step

@@ -20,15 +20,20 @@ use Rattle.gate_core.proofs.parts.Parts.tell.Goals as goal
 
 pub returns-in_err-client_out-clause-grows : goal.returns-in_err-client_out-clause-grows
 returns-in_err-client_out-clause-grows g c =
-    grows-then 0 0 0 0 _ _ _ c.issue.ensures.grows (clients-grow c.issue.new.self _ c.told_client.ensures.length c.told_client.ensures.settled refl refl refl)
+    grows-then 0 0 0 0 _ _ _ c.issue.ensures.grows
+    (clients-grow c.issue.new.self _ c.told_client.ensures.length c.told_client.ensures.settled refl refl refl)
 
 pub returns-in_err-port_out-clause-grows : goal.returns-in_err-port_out-clause-grows
 returns-in_err-port_out-clause-grows g c =
-    grows-then 0 0 0 0 _ _ _ c.issue.ensures.grows (lines-grow c.issue.new.self _ c.told_client.ensures.length c.told_port.ensures.length c.told_port.ensures.next c.told_client.ensures.settled c.told_port.ensures.settled refl refl)
+    grows-then 0 0 0 0 _ _ _ c.issue.ensures.grows
+    (lines-grow c.issue.new.self _ c.told_client.ensures.length c.told_port.ensures.length c.told_port.ensures.next
+    c.told_client.ensures.settled c.told_port.ensures.settled refl refl)
 
 pub returns-clause-grows : goal.returns-clause-grows
 returns-clause-grows g c =
-    grows-then 0 0 0 0 _ _ _ c.issue.ensures.grows (lines-grow c.issue.new.self _ c.told_client.ensures.length c.told_port.ensures.length c.told_port.ensures.next c.told_client.ensures.settled c.told_port.ensures.settled refl refl)
+    grows-then 0 0 0 0 _ _ _ c.issue.ensures.grows
+    (lines-grow c.issue.new.self _ c.told_client.ensures.length c.told_port.ensures.length c.told_port.ensures.next
+    c.told_client.ensures.settled c.told_port.ensures.settled refl refl)
 
 pub returns-clause-step : goal.returns-clause-step
 returns-clause-step it c s v link packet payload g given told =
@@ -40,18 +45,30 @@ returns-clause-step it c s v link packet payload g given told =
     let w : Lists = port_called p (OnPacket packet c.args.at) v in
     let x : Lists = client_called_all n (issues c.args.at bs) (turned (Some t) w) in
     let issued = c.in_ok-reports.ensures.issued s (turned (Some t) w) told.parts in
-    let new : Parts _ _ = record { clients = c.told_client.new.clients; ports = c.told_port.new.ports; client_ports = c.issue.new.self.client_ports; orders = c.issue.new.self.orders } in
+    let new : Parts _ _ = record {
+      clients = c.told_client.new.clients;
+      ports = c.told_port.new.ports;
+      client_ports =
+          c.issue.new.self.client_ports;
+      orders = c.issue.new.self.orders;
+    } in
     let out = c.in_ok-reports.field-0 in
     let client_out = map link_out_seen c.in_ok-client_out.client_out.items in
     let port_out = map link_out_seen c.in_ok-port_out.port_out.items in
     let lines = c.in_ok-client_out.ensures.outs x.client_link issued.parts.client_links
-    ∙ ap (λ (xs : List SessionOut). outs_told_on (x.client_link n) (map frames xs) ++ map link_out_seen out.outs.items) c.new.ensures.items in
+    ∙ ap (λ (xs : List SessionOut). outs_told_on (x.client_link n) (map frames xs) ++ map link_out_seen out.outs.items)
+    c.new.ensures.items in
     subst (λ (b : Batch). Stepped s (PortPacket p link c.args.at packet) b v new)
     (sym (c.of_parts.ensures
-    ∙ ap (λ (k : ℕ). batch_of k out.reports.items client_out c.at_place-port.result port_out None) c.at_place-client.ensures
+    ∙ ap (λ (k : ℕ). batch_of k out.reports.items client_out c.at_place-port.result port_out None)
+    c.at_place-client.ensures
     ∙ ap (λ (k : ℕ). batch_of n out.reports.items client_out k port_out None) c.at_place-port.ensures))
-    (told-step s p link c.args.at packet payload (option_to_list c.args.said) v g given q n bs out c.args.self.now c.issue.new.self new
+    (told-step s p link c.args.at packet payload
+    (option_to_list c.args.said) v g given q n bs out c.args.self.now c.issue.new.self new
     client_out port_out
-    reads-after refl told issued lines (port-told-alone (x.port_link p) port_out (option_to_list c.args.said) _ (c.in_ok-port_out.ensures.outs x.port_link issued.parts.port_links) c.new-2.ensures.items)
-    (c.told_client.ensures.leave s x.client_calls issued.parts.clients) (c.in_ok-client_out.ensures.links x.client_link issued.parts.client_links) c.told_client.ensures.length
-    (c.told_port.ensures.leave s x.port_calls issued.parts.ports) (c.in_ok-port_out.ensures.links x.port_link issued.parts.port_links) c.told_port.ensures.length refl refl)
+    reads-after refl told issued lines (port-told-alone (x.port_link p) port_out (option_to_list c.args.said) _
+    (c.in_ok-port_out.ensures.outs x.port_link issued.parts.port_links) c.new-2.ensures.items)
+    (c.told_client.ensures.leave s x.client_calls issued.parts.clients)
+    (c.in_ok-client_out.ensures.links x.client_link issued.parts.client_links) c.told_client.ensures.length
+    (c.told_port.ensures.leave s x.port_calls issued.parts.ports)
+    (c.in_ok-port_out.ensures.links x.port_link issued.parts.port_links) c.told_port.ensures.length refl refl)

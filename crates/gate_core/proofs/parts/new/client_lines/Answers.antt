@@ -13,7 +13,8 @@ loop-client-preserved c =
     let client = c.client-item.result in
     let line = c.in_ok-client_line.field-0 in
     let made = c.in_ok-client_line.ensures in
-    let at = stands-next s.clients all.result.now (length old) i client all.ensures.clients so_far.count c.loop-client-test.true c.client-item.is in
+    let at = stands-next s.clients all.result.now
+    (length old) i client all.ensures.clients so_far.count c.loop-client-test.true c.client-item.is in
     let more = c.in_ok-push.ensures.items in
     record {
       count = one-more old new line i more so_far.count;

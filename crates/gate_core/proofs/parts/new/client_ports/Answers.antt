@@ -15,9 +15,11 @@ loop-client-preserved c =
     let client = c.client-item.result in
     let p = c.client.inside.terms.port in
     let is = ap (λ (k : ClientSettings). k.terms.port) c.client.view_is in
-    let at = stands-next s.clients all.result.now (length old) i client all.ensures.clients so_far.count c.loop-client-test.true c.client-item.is in
+    let at = stands-next s.clients all.result.now
+    (length old) i client all.ensures.clients so_far.count c.loop-client-test.true c.client-item.is in
     let more = c.in_ok-push.ensures.items in
-    let is_on = subst (IsOnPort (length s.ports)) (sym c.client-item.is) (all.ensures.ports i client c.loop-client-test.true) in
+    let is_on = subst (IsOnPort (length s.ports)) (sym c.client-item.is)
+    (all.ensures.ports i client c.loop-client-test.true) in
     record {
       count = one-more old new p i more so_far.count;
       are = ports-more s old new p client at is more so_far.are;

@@ -7,5 +7,6 @@ pub returns-clause-clients : goal.returns-clause-clients
 returns-clause-clients g c =
     let lent : c.deref.result.now ≡ c.in_ok-terms.terms.items = search rules in
     let same : length c.in_ok-terms.terms.items ≡ length c.args.settings.now.clients =
-    sym (length-map c.in_ok-terms.terms.items _) ∙ ap length c.in_ok-terms.ensures ∙ length-map c.args.settings.now.clients _ in
+    sym (length-map c.in_ok-terms.terms.items _) ∙ ap length c.in_ok-terms.ensures
+    ∙ length-map c.args.settings.now.clients _ in
     IfOk-weaker c.with_hasher.result _ _ (λ core e. e ∙ ap length lent ∙ same) c.with_hasher.ensures.clients

@@ -27,6 +27,7 @@ returns g c s before is =
     board-is s before fields after
     _ refl
     (c.in_ok-clients.ensures.count ∙ ap (λ (l : List ClientLine). length l) c.as_slice.ensures.value)
-    (subst (λ (l : List ClientLine). AreRowsOf (lists s before).turns l c.in_ok-clients.clients.items) c.as_slice.ensures.value
+    (subst (λ (l : List ClientLine). AreRowsOf (lists s before).turns l c.in_ok-clients.clients.items)
+    c.as_slice.ensures.value
     (c.in_ok-clients.ensures.rows _ (lists s before).turns few after.parts.orders))
     (c.in_ok-ports.ensures ∙ ap (map port_row_of) c.as_slice-2.ensures.value)

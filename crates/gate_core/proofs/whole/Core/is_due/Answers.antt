@@ -4,4 +4,6 @@ use Rattle.gate_core.proofs.Naming.{parts-of}
 use Rattle.gate_core.proofs.whole.Core.is_due.Goals as goal
 
 pub returns : goal.returns
-returns g c s before is = c.is_due.ensures s (lists s before) (parts-of s before _ (fields-of s before (record { parts = c.self.inside.parts; events = c.self.inside.events }) _ c.args.self.now c.self.view_is is))
+returns g c s before is = c.is_due.ensures s (lists s before)
+    (parts-of s before _ (fields-of s before (record { parts = c.self.inside.parts; events = c.self.inside.events }) _
+    c.args.self.now c.self.view_is is))

@@ -11,10 +11,12 @@ use Rattle.gate_journal.proofs.history.History.batches.Goals as goal
 
 pub returns-clause-batches : goal.returns-clause-batches
 returns-clause-batches c =
-    c.in_ok-batches.ensures ∙ ap batches_in (c.of.ensures ∙ ap (day_records Two) c.as_slice.ensures) ∙ ap (λ (k : Kept). k.batches) c.self.view_is
+    c.in_ok-batches.ensures ∙ ap batches_in (c.of.ensures ∙ ap (day_records Two) c.as_slice.ensures)
+    ∙ ap (λ (k : Kept). k.batches) c.self.view_is
 
 pub returns-clause-count : goal.returns-clause-count
 returns-clause-count c =
     sym (length-map c.in_ok-batches.batches.items batch_seen)
-    ∙ ap (λ (bs : List law.Batch). length bs) (c.in_ok-batches.ensures ∙ ap batches_in (c.of.ensures ∙ ap (day_records Two) c.as_slice.ensures))
+    ∙ ap (λ (bs : List law.Batch). length bs)
+    (c.in_ok-batches.ensures ∙ ap batches_in (c.of.ensures ∙ ap (day_records Two) c.as_slice.ensures))
     ∙ sym (as-many c.self.inside.pages) ∙ ap (λ (k : Kept). length k.events) c.self.view_is

@@ -9,9 +9,11 @@ use Rattle.gate_journal.proofs.history.History.events.Goals as goal
 
 pub returns-clause-events : goal.returns-clause-events
 returns-clause-events c =
-    c.in_ok-events.ensures ∙ ap events_in (c.of.ensures ∙ ap (day_records Two) c.as_slice.ensures) ∙ ap (λ (k : Kept). k.events) c.self.view_is
+    c.in_ok-events.ensures ∙ ap events_in (c.of.ensures ∙ ap (day_records Two) c.as_slice.ensures)
+    ∙ ap (λ (k : Kept). k.events) c.self.view_is
 
 pub returns-clause-count : goal.returns-clause-count
 returns-clause-count c =
-    ap (λ (es : List Event). length es) (c.in_ok-events.ensures ∙ ap events_in (c.of.ensures ∙ ap (day_records Two) c.as_slice.ensures))
+    ap (λ (es : List Event). length es) (c.in_ok-events.ensures
+    ∙ ap events_in (c.of.ensures ∙ ap (day_records Two) c.as_slice.ensures))
     ∙ as-many c.self.inside.pages ∙ ap (λ (k : Kept). length k.batches) c.self.view_is

@@ -17,16 +17,19 @@ invariant_of-self c = ap (day_fault Two) c.in_err-append_turn.ensures.err ∙ c.
 pub invariant_of-self-2 : goal.invariant_of-self-2
 invariant_of-self-2 c =
     ap (day_fault Two) c.in_ok-append_turn.ensures.ok
-    ∙ day-pushed c.self.inside.pages c.args.event.now (batch_seen c.args.batch.now) c.self.invariant c.in_ok-append_turn.ensures.turn
+    ∙ day-pushed c.self.inside.pages c.args.event.now
+    (batch_seen c.args.batch.now) c.self.invariant c.in_ok-append_turn.ensures.turn
 
 pub returns-in_err-append_turn-clause-err : goal.returns-in_err-append_turn-clause-err
-returns-in_err-append_turn-clause-err c = on-err c.from_residual.result (ap kept_in c.in_err-append_turn.ensures.err ∙ c.self.view_is)
+returns-in_err-append_turn-clause-err c =
+    on-err c.from_residual.result (ap kept_in c.in_err-append_turn.ensures.err ∙ c.self.view_is)
 
 pub returns-clause-events : goal.returns-clause-events
 returns-clause-events c =
     let e : Event = c.args.event.now in
     ap (λ (p : List (List ℕ)). events_in (day_records Two p)) c.in_ok-append_turn.ensures.ok
-    ∙ events-pushed c.self.inside.pages e (batch_seen c.args.batch.now) c.self.invariant c.in_ok-append_turn.ensures.turn
+    ∙ events-pushed c.self.inside.pages e (batch_seen c.args.batch.now) c.self.invariant
+    c.in_ok-append_turn.ensures.turn
     ∙ ap (λ (k : Kept). k.events ++ e ∷ []) c.self.view_is
 
 pub returns-clause-batches : goal.returns-clause-batches
@@ -47,4 +50,5 @@ returns-clause-turns c =
 pub returns-clause-pages : goal.returns-clause-pages
 returns-clause-pages c =
     c.in_ok-append_turn.ensures.ok
-    ∙ ap (λ (k : Kept). with_records k.pages (turn_records c.args.event.now (batch_seen c.args.batch.now))) c.self.view_is
+    ∙ ap (λ (k : Kept). with_records k.pages (turn_records c.args.event.now (batch_seen c.args.batch.now)))
+    c.self.view_is

@@ -11,7 +11,8 @@ loop-preserved g c = elim c.match-tried.branch [
   | in-Err w ↦
       let same = rw w.in-Err.is at c.in-Some.ensures.counts in
       record {
-        so_far = rw (w.link-is, w.self-is) (as_many (reads_of c.args.self.now.peer) c.loop.link _ _ _ _ _ c.loop.invariant.so_far same);
+        so_far = rw (w.link-is, w.self-is) (as_many
+            (reads_of c.args.self.now.peer) c.loop.link _ _ _ _ _ c.loop.invariant.so_far same);
         few = omega (arith, w.link-is, c.loop.invariant.few);
         none_taken = rw w.self-is c.loop.invariant.none_taken;
         peer = rw w.self-is c.loop.invariant.peer;
@@ -24,7 +25,9 @@ loop-preserved g c = elim c.match-tried.branch [
       (g.G.Gate.was_put c.loop.self.worker.gate) (g.G.Gate.was_put w.read_link-read.new.self.worker.gate)))
       c.loop.invariant.peer w.in-Some-read.ensures.some in
       record {
-        so_far = rw (w.link-is, w.self-is) (one_more (reads_of c.args.self.now.peer) c.loop.link _ _ _ w.in-Some-read.end.reader _ _ _ c.loop.invariant.so_far (w.ended.ensures.same ∙ (ap g.O.Opener.opened same.2 ∙ more)) some);
+        so_far = rw (w.link-is, w.self-is) (one_more
+            (reads_of c.args.self.now.peer) c.loop.link _ _ _ w.in-Some-read.end.reader _ _ _ c.loop.invariant.so_far
+            (w.ended.ensures.same ∙ (ap g.O.Opener.opened same.2 ∙ more)) some);
         few = omega (arith, w.link-is, c.loop.invariant.few);
         none_taken = rw w.self-is (w.read_link-read.ensures.none_taken ∙ c.loop.invariant.none_taken);
         peer = rw w.self-is (same.0 ∙ c.loop.invariant.peer);

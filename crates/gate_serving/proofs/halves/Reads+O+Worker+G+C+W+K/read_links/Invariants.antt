@@ -5,7 +5,8 @@ use Rattle.gate_serving.proofs.halves.Reads+O+Worker+G+C+W+K.read_links.Given as
 
 abbrev pub invariant-loop : goal.invariant-loop
 invariant-loop g l = record {
-  so_far : ReadSoFar (reads_of l.fn.self.peer) l.link (g.O.Opener.opened l.fn.self.opener) (g.O.Opener.opened l.self.opener) (g.G.Gate.was_put l.fn.self.worker.gate) (g.G.Gate.was_put l.self.worker.gate);
+  so_far : ReadSoFar (reads_of l.fn.self.peer) l.link (g.O.Opener.opened l.fn.self.opener)
+      (g.O.Opener.opened l.self.opener) (g.G.Gate.was_put l.fn.self.worker.gate) (g.G.Gate.was_put l.self.worker.gate);
   few : l.link ≤ l.counter;
   none_taken : g.G.Gate.was_taken l.self.worker.gate ≡ g.G.Gate.was_taken l.fn.self.worker.gate;
   peer : l.self.peer ≡ l.fn.self.peer;

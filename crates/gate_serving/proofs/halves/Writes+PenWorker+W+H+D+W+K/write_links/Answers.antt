@@ -4,4 +4,5 @@ use Rattle.gate_serving.proofs.halves.Writes+PenWorker+W+H+D+W+K.write_links.Goa
 
 pub loop-before-preserved : goal.loop-before-preserved
 loop-before-preserved g c =
-    one_written (HasEnded g.W.Write.contents) c.write_link-end.result _ _ _ c.loop-before.invariant c.write_link-end.ensures.written
+    one_written (HasEnded g.W.Write.contents) c.write_link-end.result _ _ _ c.loop-before.invariant
+    c.write_link-end.ensures.written

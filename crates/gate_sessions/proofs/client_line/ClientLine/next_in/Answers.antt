@@ -10,4 +10,5 @@ pub returns : goal.returns
 unfolding ClientLeaves
 returns c s k calls is =
     c.next_in.ensures.number s.comp (client_name s k) (turns_after s.comp (client_name s k) calls)
-    (subst (Leaves s.comp (client_name s k) (turns_after s.comp (client_name s k) calls)) (sym is) (after-Leaves s.comp (client_name s k) calls))
+    (subst (Leaves s.comp (client_name s k) (turns_after s.comp (client_name s k) calls)) (sym is)
+    (after-Leaves s.comp (client_name s k) calls))

@@ -8,16 +8,28 @@ use Rattle.gate_sessions.proofs.PortCalls.{port-answers, port-settled-stays, por
 use Rattle.gate_sessions.proofs.port_lines.Ports.packet.Goals as goal
 
 pub returns-clause-leave : goal.returns-clause-leave
-returns-clause-leave c = λ s calls. ports-called s calls c.args.self.now.lines.items c.args.place c.index_mut.result.now _ (OnPacket c.args.packet.now c.args.at) c.index_mut.ensures.value c.requires.place c.on_packet.ensures.leaves
+returns-clause-leave c = λ s calls. ports-called s calls c.args.self.now.lines.items c.args.place c.index_mut.result.now
+    _ (OnPacket c.args.packet.now c.args.at) c.index_mut.ensures.value c.requires.place c.on_packet.ensures.leaves
 
 pub returns-clause-answers : goal.returns-clause-answers
-returns-clause-answers c = λ s calls all. port-answers s (c.args.place + 1) (calls (c.args.place + 1)) c.index_mut.result.now.session.port (OnPacket c.args.packet.now c.args.at) c.on_packet.result c.on_packet.ensures.answers (port-there s calls c.args.self.now.lines.items c.args.place c.index_mut.result.now c.index_mut.ensures.value c.requires.place all)
+returns-clause-answers c = λ s calls all. port-answers s (c.args.place + 1)
+    (calls (c.args.place + 1)) c.index_mut.result.now.session.port
+    (OnPacket c.args.packet.now c.args.at) c.on_packet.result c.on_packet.ensures.answers
+    (port-there s calls c.args.self.now.lines.items c.args.place c.index_mut.result.now c.index_mut.ensures.value
+    c.requires.place all)
 
 pub returns-clause-links : goal.returns-clause-links
-returns-clause-links c = λ links. kept-set (λ (x : PortLine). x.link) links c.args.self.now.lines.items c.args.place _ c.index_mut.result.now c.index_mut.ensures.value c.requires.place refl
+returns-clause-links c = λ links. kept-set
+    (λ (x : PortLine). x.link) links c.args.self.now.lines.items c.args.place _ c.index_mut.result.now
+    c.index_mut.ensures.value c.requires.place refl
 
 pub returns-clause-next : goal.returns-clause-next
-returns-clause-next c = λ n. within-set (λ (x : PortLine). next_of x.session.port) n (n + 1) c.args.self.now.lines.items c.args.place _ c.index_mut.result.now c.index_mut.ensures.value c.requires.place (omega arith) (λ few. omega (arith, few, c.on_packet.ensures.next))
+returns-clause-next c = λ n. within-set (λ (x : PortLine). next_of x.session.port) n
+    (n + 1) c.args.self.now.lines.items c.args.place _ c.index_mut.result.now c.index_mut.ensures.value c.requires.place
+    (omega arith) (λ few. omega (arith, few, c.on_packet.ensures.next))
 
 pub returns-clause-settled : goal.returns-clause-settled
-returns-clause-settled c = λ was. kept-set port_settled was c.args.self.now.lines.items c.args.place _ c.index_mut.result.now c.index_mut.ensures.value c.requires.place (port-settled-stays c.index_mut.result.now.settled_link c.index_mut.result.now.session.settled _ c.on_packet.ensures.settled)
+returns-clause-settled c = λ was. kept-set port_settled was c.args.self.now.lines.items c.args.place _
+    c.index_mut.result.now c.index_mut.ensures.value c.requires.place
+    (port-settled-stays c.index_mut.result.now.settled_link c.index_mut.result.now.session.settled _
+    c.on_packet.ensures.settled)

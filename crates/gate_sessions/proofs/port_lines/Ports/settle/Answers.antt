@@ -8,4 +8,6 @@ use Rattle.gate_sessions.proofs.port_lines.Ports.settle.Goals as goal
 pub loop-line-preserved : goal.loop-line-preserved
 loop-line-preserved c =
     let was = get_or c.loop-line.line-items c.loop-line.line-index c.line-item.result in
-    one-more port_settled port_now c.loop-line.line-items _ c.loop-line.line-index _ c.line-item.result (omega (arith, c.loop-line-test.true)) (ap (λ (h : PortHeld). stood was.link h.port) c.settle.ensures) (ap (λ (h : PortHeld). stood was.link h.settled) c.settle.ensures) c.loop-line.invariant
+    one-more port_settled port_now c.loop-line.line-items _ c.loop-line.line-index _ c.line-item.result
+    (omega (arith, c.loop-line-test.true)) (ap (λ (h : PortHeld). stood was.link h.port) c.settle.ensures)
+    (ap (λ (h : PortHeld). stood was.link h.settled) c.settle.ensures) c.loop-line.invariant

@@ -8,4 +8,6 @@ use Rattle.gate_sessions.proofs.port_lines.Ports.undo.Goals as goal
 pub loop-line-preserved : goal.loop-line-preserved
 loop-line-preserved c =
     let was = get_or c.loop-line.line-items c.loop-line.line-index c.line-item.result in
-    one-more port_now port_settled c.loop-line.line-items _ c.loop-line.line-index _ c.line-item.result (omega (arith, c.loop-line-test.true)) (ap (λ (h : PortHeld). stood was.settled_link h.settled) c.undo.ensures) (ap (λ (h : PortHeld). stood was.settled_link h.port) c.undo.ensures) c.loop-line.invariant
+    one-more port_now port_settled c.loop-line.line-items _ c.loop-line.line-index _ c.line-item.result
+    (omega (arith, c.loop-line-test.true)) (ap (λ (h : PortHeld). stood was.settled_link h.settled) c.undo.ensures)
+    (ap (λ (h : PortHeld). stood was.settled_link h.port) c.undo.ensures) c.loop-line.invariant

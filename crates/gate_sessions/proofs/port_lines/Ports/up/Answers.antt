@@ -8,16 +8,29 @@ use Rattle.gate_sessions.proofs.PortCalls.{port-answers, port-settled-stays, por
 use Rattle.gate_sessions.proofs.port_lines.Ports.up.Goals as goal
 
 pub returns-clause-leave : goal.returns-clause-leave
-returns-clause-leave c = λ s calls. ports-called s calls c.args.self.now.lines.items c.args.place c.index_mut-line.result.now _ (OnUp c.args.at) c.index_mut-line.ensures.value c.requires.place c.in_ok-turn.ensures.leaves
+returns-clause-leave c = λ s calls. ports-called s calls c.args.self.now.lines.items c.args.place
+    c.index_mut-line.result.now _ (OnUp c.args.at) c.index_mut-line.ensures.value c.requires.place
+    c.in_ok-turn.ensures.leaves
 
 pub returns-clause-answers : goal.returns-clause-answers
-returns-clause-answers c = λ s calls all. port-answers s (c.args.place + 1) (calls (c.args.place + 1)) c.index_mut-line.result.now.session.port (OnUp c.args.at) c.in_ok-turn.turn c.in_ok-turn.ensures.answers (port-there s calls c.args.self.now.lines.items c.args.place c.index_mut-line.result.now c.index_mut-line.ensures.value c.requires.place all)
+returns-clause-answers c = λ s calls all. port-answers s (c.args.place + 1)
+    (calls (c.args.place + 1)) c.index_mut-line.result.now.session.port
+    (OnUp c.args.at) c.in_ok-turn.turn c.in_ok-turn.ensures.answers
+    (port-there s calls c.args.self.now.lines.items c.args.place c.index_mut-line.result.now
+    c.index_mut-line.ensures.value c.requires.place all)
 
 pub returns-clause-links : goal.returns-clause-links
-returns-clause-links c = λ links. linked-set (λ (x : PortLine). x.link) (Some c.args.link) links c.args.self.now.lines.items c.args.place _ c.index_mut-line.result.now c.requires.place refl
+returns-clause-links c = λ links. linked-set (λ (x : PortLine). x.link)
+    (Some c.args.link) links c.args.self.now.lines.items c.args.place _ c.index_mut-line.result.now c.requires.place
+    refl
 
 pub returns-clause-next : goal.returns-clause-next
-returns-clause-next c = λ n. within-set (λ (x : PortLine). next_of x.session.port) n n c.args.self.now.lines.items c.args.place _ c.index_mut-line.result.now c.index_mut-line.ensures.value c.requires.place (omega arith) (λ few. omega (arith, few, c.on_up.ensures.next))
+returns-clause-next c = λ n. within-set (λ (x : PortLine). next_of x.session.port) n n c.args.self.now.lines.items
+    c.args.place _ c.index_mut-line.result.now c.index_mut-line.ensures.value c.requires.place (omega arith)
+    (λ few. omega (arith, few, c.on_up.ensures.next))
 
 pub returns-clause-settled : goal.returns-clause-settled
-returns-clause-settled c = λ was. kept-set port_settled was c.args.self.now.lines.items c.args.place _ c.index_mut-line.result.now c.index_mut-line.ensures.value c.requires.place (port-settled-stays c.index_mut-line.result.now.settled_link c.index_mut-line.result.now.session.settled _ c.on_up.ensures.settled)
+returns-clause-settled c = λ was. kept-set port_settled was c.args.self.now.lines.items c.args.place _
+    c.index_mut-line.result.now c.index_mut-line.ensures.value c.requires.place
+    (port-settled-stays c.index_mut-line.result.now.settled_link c.index_mut-line.result.now.session.settled _
+    c.on_up.ensures.settled)

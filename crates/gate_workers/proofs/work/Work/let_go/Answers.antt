@@ -9,7 +9,11 @@ use Rattle.gate_workers.proofs.work.Work.let_go.Goals as goal
 pub invariant_of-self : goal.invariant_of-self
 invariant_of-self g c = record {
   kept =
-      subst (λ (o : Option (Link _ _)). ∥ PenKept g.W.Write.contents g.G.Gate.was_taken c.args.self.now.links o c.take.new.self ∥₁) (sym c.in-None.is)
-      (∥∥₁_map (subst (λ (o : Option (Link _ _)). ∥ PenKept g.W.Write.contents g.G.Gate.was_taken c.args.self.now.links o c.args.self.now.gate ∥₁) c.in-None.is c.args.self.now.kept)
-      (kept_let_go g.W.Write.contents g.G.Gate.was_taken c.args.self.now.links c.args.self.now.gate c.take.new.self (λ outs. map link_out_seen outs.items) c.take.result c.if-self-eq0.false c.take.ensures.taken c.take.ensures.none));
+      subst (λ (o : Option (Link _ _)). ∥ PenKept g.W.Write.contents g.G.Gate.was_taken c.args.self.now.links o
+      c.take.new.self ∥₁) (sym c.in-None.is)
+      (∥∥₁_map (subst (λ (o : Option (Link _ _)). ∥ PenKept g.W.Write.contents g.G.Gate.was_taken c.args.self.now.links
+      o c.args.self.now.gate ∥₁) c.in-None.is c.args.self.now.kept)
+      (kept_let_go g.W.Write.contents g.G.Gate.was_taken c.args.self.now.links c.args.self.now.gate c.take.new.self
+      (λ outs. map link_out_seen outs.items) c.take.result c.if-self-eq0.false c.take.ensures.taken
+      c.take.ensures.none));
 }

@@ -10,4 +10,5 @@ returns c =
     let count : ℕ = c.args.mark.pages in
     c.cut_last.ensures
     ∙ ap (λ (ps : List (Vec ℕ Global)). last_cut c.args.mark.bytes (texts ps)) c.truncate.ensures.items
-    ∙ ap (last_cut c.args.mark.bytes) (sym (take-map (λ (v : Vec ℕ Global). v.items) count pages) ∙ ap (take count) c.self.view_is)
+    ∙ ap (last_cut c.args.mark.bytes) (sym (take-map (λ (v : Vec ℕ Global). v.items) count pages)
+    ∙ ap (take count) c.self.view_is)

@@ -6,4 +6,5 @@ returns-clause-ok c =
     let front : List ℕ = c.args.front.now in
     let back : List ℕ = c.args.back.now in
     c.in_ok-append_pieces.ensures.ok
-    ∙ ap (λ (l : List ℕ). c.args.out.now.items ++ l) (c.bytes-head.ensures (front ++ back) (omega (arith, length-append front back)))
+    ∙ ap (λ (l : List ℕ). c.args.out.now.items ++ l)
+    (c.bytes-head.ensures (front ++ back) (omega (arith, length-append front back)))

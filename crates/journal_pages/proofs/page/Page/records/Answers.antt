@@ -14,7 +14,8 @@ is_spelled-requires c = subst (λ (l : List ℕ). is_page l ≡ true) (sym c.as_
 
 pub split_at-requires : goal.split_at-requires
 split_at-requires c =
-    let is : is_page c.as_slice-text.result.now ≡ true = subst (λ (l : List ℕ). is_page l ≡ true) (sym c.as_slice-text.ensures) c.args.self.now.whole in
+    let is : is_page c.as_slice-text.result.now ≡ true =
+    subst (λ (l : List ℕ). is_page l ≡ true) (sym c.as_slice-text.ensures) c.args.self.now.whole in
     let parts = page-parts Two c.as_slice-text.result.now (none-of (page_fault Two c.as_slice-text.result.now) is) in
     omega (arith, c.front_size.ensures, parts.long)
 
@@ -27,22 +28,27 @@ returns-clause-records c =
 pub returns-clause-ordered : goal.returns-clause-ordered
 returns-clause-ordered c =
     let text : List ℕ = c.as_slice-text.result.now in
-    let is : is_page text ≡ true = subst (λ (l : List ℕ). is_page l ≡ true) (sym c.as_slice-text.ensures) c.args.self.now.whole in
-    let back : c.split_at.result.1.now ≡ drop 12 text = c.split_at.ensures.back ∙ ap (λ n. drop n text) c.front_size.ensures in
+    let is : is_page text ≡ true = subst (λ (l : List ℕ). is_page l ≡ true)
+    (sym c.as_slice-text.ensures) c.args.self.now.whole in
+    let back : c.split_at.result.1.now ≡ drop 12 text = c.split_at.ensures.back
+    ∙ ap (λ n. drop n text) c.front_size.ensures in
     subst (λ (rs : List Record). order_fault PageStart rs ≡ None) (ap records_in (sym back) ∙ sym c.of.ensures)
     (page-ordered Two text (none-of (page_fault Two text) is))
 
 pub returns-clause-sound : goal.returns-clause-sound
 returns-clause-sound c =
     let text : List ℕ = c.as_slice-text.result.now in
-    let back : c.split_at.result.1.now ≡ drop 12 text = c.split_at.ensures.back ∙ ap (λ n. drop n text) c.front_size.ensures in
+    let back : c.split_at.result.1.now ≡ drop 12 text = c.split_at.ensures.back
+    ∙ ap (λ n. drop n text) c.front_size.ensures in
     subst AreSound (ap records_in (sym back) ∙ sym c.of.ensures) (page-sound Two text)
 
 pub returns-clause-whole : goal.returns-clause-whole
 returns-clause-whole c =
     let text : List ℕ = c.as_slice-text.result.now in
-    let back : c.split_at.result.1.now ≡ drop 12 text = c.split_at.ensures.back ∙ ap (λ n. drop n text) c.front_size.ensures in
+    let back : c.split_at.result.1.now ≡ drop 12 text = c.split_at.ensures.back
+    ∙ ap (λ n. drop n text) c.front_size.ensures in
     sym c.as_slice-text.ensures ∙ c.is_spelled.ensures
     ∙ ap (λ (l : List ℕ). page_front (page_number text) ++ flat_map record_bytes (records_in l)) (sym back)
     ∙ ap (λ (rs : List Record). page_front (page_number text) ++ flat_map record_bytes rs) (sym c.of.ensures)
-    ∙ ap (λ (l : List ℕ). page_front (page_number l) ++ flat_map record_bytes (records_ahead c.of.result)) c.as_slice-text.ensures
+    ∙ ap (λ (l : List ℕ). page_front (page_number l) ++ flat_map record_bytes (records_ahead c.of.result))
+    c.as_slice-text.ensures

@@ -11,11 +11,14 @@ returns-then-left-eq0-clause-step c =
     let m = c.args.self.now in
     let eo = ap (λ (x : law.Machine). x.book) c.self.view_is in
     let found = is-found p m c.self.inside.orders.items c.args.place c.index.result.now eo c.requires c.index.ensures in
-    let left : c.saturating_sub-left.result ≡ c.args.request.now.shares - c.index.result.now.executed = c.saturating_sub-left.ensures ∙ ap (λ k. c.args.request.now.shares - k) c.executed.ensures in
+    let left : c.saturating_sub-left.result ≡ c.args.request.now.shares - c.index.result.now.executed =
+    c.saturating_sub-left.ensures ∙ ap (λ k. c.args.request.now.shares - k) c.executed.ensures in
     let zero-left : c.saturating_sub-left.result ≡ 0 = search rules in
     IfOk-weaker c.cancel_all.result _ _ (λ says h c' e.
     let same = some-same c.index.result.now c' (sym found ∙ e) in
-    move-none m c.args.request.now c' c.args.state _ _ _ _ (ap (λ (o : law.BookOrder). c.args.request.now.shares - o.executed) (sym same) ∙ sym left ∙ zero-left) (h c' e)) c.cancel_all.ensures.step
+    move-none m c.args.request.now c' c.args.state _ _ _ _
+    (ap (λ (o : law.BookOrder). c.args.request.now.shares - o.executed) (sym same) ∙ sym left ∙ zero-left) (h c' e))
+    c.cancel_all.ensures.step
 
 pub returns-clause-step : goal.returns-clause-step
 returns-clause-step c = λ c' e.
@@ -31,12 +34,22 @@ returns-clause-step c = λ c' e.
     let found-second = is-found p m c.self.inside.orders.items i c.index-2.result.now eo c.requires c.index-2.ensures in
     let same = some-same c.index.result.now c' (sym found-first ∙ e) in
     let same-2 = some-same c.index-2.result.now c' (sym found-second ∙ e) in
-    let left : c.saturating_sub-left.result ≡ r.shares - c'.executed = c.saturating_sub-left.ensures ∙ ap (λ k. r.shares - k) c.executed.ensures ∙ ap (λ (o : law.BookOrder). r.shares - o.executed) same in
+    let left : c.saturating_sub-left.result ≡ r.shares - c'.executed = c.saturating_sub-left.ensures
+    ∙ ap (λ k. r.shares - k) c.executed.ensures ∙ ap (λ (o : law.BookOrder). r.shares - o.executed) same in
     let some : 1 ≤ c.saturating_sub-left.result = search rules in
     let most : c.saturating_sub-left.result ≤ 999_999 = let s = r.shares_set.1 in omega (arith, left, s) in
     move-some m r c' c.args.state (r.shares - c'.executed) _ _ _ (subst (λ n. 1 ≤ n) left some)
-    (λ fit. same-machine _ _ (c.in_ok-insert.ensures.items ∙ ap (λ us. r.replacement_token ∷ us) (c.reserve.ensures.items ∙ ap (λ (x : law.Machine). x.used) c.self.view_is)) (ap (λ (x : law.Machine). x.matches) c.self.view_is)
-    (ap (λ xs. set xs i c.replace.new.self) eo ∙ written p (law.moved r (r.shares - c'.executed) fit c.args.state) m.book i here c.replace.new.self c.requires h
-    (subst (λ n. (fit : n < 2 ^ 32) → c.replace.new.self ≡ law.moved r n fit c.args.state here) left c.in_ok-replace.ensures.moved fit)))
-    (λ set. c.in_ok-says.ensures ∙ ap (λ a. a ∷ []) (subst (λ n. (s : (1 ≤ n) × (n ≤ 999_999)) → c.replaced-message.result ≡ say.replaced_by c.entered.result.now r n s c.args.state) left c.replaced-message.ensures set
-    ∙ ap (λ o. say.replaced_by o r (r.shares - c'.executed) set c.args.state) (c.entered.ensures ∙ ap (λ (o : law.BookOrder). o.entered) same-2)))
+    (λ fit. same-machine _ _ (c.in_ok-insert.ensures.items
+    ∙ ap (λ us. r.replacement_token ∷ us) (c.reserve.ensures.items
+    ∙ ap (λ (x : law.Machine). x.used) c.self.view_is)) (ap (λ (x : law.Machine). x.matches) c.self.view_is)
+    (ap (λ xs. set xs i c.replace.new.self) eo
+    ∙ written p (law.moved r (r.shares - c'.executed) fit c.args.state) m.book i here c.replace.new.self c.requires
+    h
+    (subst (λ n. (fit : n < 2 ^ 32) → c.replace.new.self ≡ law.moved r n fit c.args.state here) left
+    c.in_ok-replace.ensures.moved fit)))
+    (λ set. c.in_ok-says.ensures ∙ ap (λ a. a ∷ [])
+    (subst (λ n. (s : (1 ≤ n) × (n ≤ 999_999))
+    → c.replaced-message.result ≡ say.replaced_by c.entered.result.now r n s c.args.state) left
+    c.replaced-message.ensures set
+    ∙ ap (λ o. say.replaced_by o r (r.shares - c'.executed) set c.args.state)
+    (c.entered.ensures ∙ ap (λ (o : law.BookOrder). o.entered) same-2)))

@@ -5,7 +5,8 @@ use Rattle.market_book.proofs.order.BookedOrder.trade.Goals as goal
 
 pub returns-in_err-insert-clause-err : goal.returns-in_err-insert-clause-err
 returns-in_err-insert-clause-err c =
-    on-err c.from_residual.result (rw (← c.self.view_is) (same-order _ _ refl refl refl refl refl refl c.in_err-insert.ensures.items refl))
+    on-err c.from_residual.result (rw (← c.self.view_is)
+    (same-order _ _ refl refl refl refl refl refl c.in_err-insert.ensures.items refl))
 
 pub returns-clause-traded : goal.returns-clause-traded
 returns-clause-traded c =

@@ -10,10 +10,15 @@ use Rattle.number_counts.proofs.Rooms.{room-in}
 use Rattle.number_counts.proofs.counts.NumberCounts.begin.Goals as goal
 
 pub note-requires : goal.note-requires
-note-requires g c = record { room = (room-in c.self.inside.counts.pushes c.self.inside.counts.changes c.self.inside.numbers.room (subst (λ (u : Undoable NumberCount). 1 ≤ u.pushes) (sym c.self.view_is) c.requires.room)).2 }
+note-requires g c = record {
+  room = (room-in c.self.inside.counts.pushes c.self.inside.counts.changes
+      c.self.inside.numbers.room (subst (λ (u : Undoable NumberCount). 1 ≤ u.pushes)
+      (sym c.self.view_is) c.requires.room)).2;
+}
 
 pub push-requires : goal.push-requires
-push-requires g c = (room-in c.self.inside.counts.pushes c.self.inside.counts.changes c.self.inside.numbers.room (subst (λ (u : Undoable NumberCount). 1 ≤ u.pushes) (sym c.self.view_is) c.requires.room)).0
+push-requires g c = (room-in c.self.inside.counts.pushes c.self.inside.counts.changes c.self.inside.numbers.room
+    (subst (λ (u : Undoable NumberCount). 1 ≤ u.pushes) (sym c.self.view_is) c.requires.room)).0
 
 pub invariant_of-self : goal.invariant_of-self
 invariant_of-self g c =
@@ -21,12 +26,14 @@ invariant_of-self g c =
     let count : NumberCount = record { number = c.args.number; count = 1 } in
     covered-pushed same_number has_number c.note.new.self c.self.inside.counts c.push.new.self count place
     (key-leads c.note.new.self c.args.number place c.note.ensures.leads count refl)
-    c.push.ensures.settled (c.note.ensures.covered c.self.invariant) (sym (ap (λ (xs : List NumberCount). length xs) c.as_slice-place.ensures)) c.push.ensures.now
+    c.push.ensures.settled (c.note.ensures.covered c.self.invariant)
+    (sym (ap (λ (xs : List NumberCount). length xs) c.as_slice-place.ensures)) c.push.ensures.now
 
 pub returns-clause-now : goal.returns-clause-now
 returns-clause-now g c = λ other.
     let count : NumberCount = record { number = c.args.number; count = 1 } in
-    let new = subst (λ (u : Undoable NumberCount). find (is_of c.args.number) (reverse u.now) ≡ None) (sym c.self.view_is) c.requires.new in
+    let new = subst (λ (u : Undoable NumberCount). find (is_of c.args.number) (reverse u.now) ≡ None)
+    (sym c.self.view_is) c.requires.new in
     ap (counted other) c.push.ensures.now
     ∙ counted-pushed c.self.inside.counts.now count other new refl
     ∙ ap (λ (u : Undoable NumberCount). counted other u.now + one_if (nat_eq other c.args.number)) c.self.view_is

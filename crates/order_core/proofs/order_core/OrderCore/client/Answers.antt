@@ -16,10 +16,12 @@ returns-clause-after g c =
     IfOk-weaker c.client_step.result _ _
     (λ out meets terms before short after.
     let leaves = (parts-of terms before c.args.self.now after).0 in
-    client-after terms before c.args.self.now c.args.client c.args.message.now c.args.port out c.client_step.new.self short
+    client-after terms before c.args.self.now c.args.client c.args.message.now c.args.port out c.client_step.new.self
+    short
     client-turns said-of-order
     (λ client id o named. number-of terms before c.args.self.now.table client id o short leaves named)
-    (λ order_of leads. asked-found terms before c.args.self.now.table c.args.client (message_fields c.args.message.now) (port_seen c.args.port) order_of short leaves leads)
+    (λ order_of leads. asked-found terms before c.args.self.now.table c.args.client (message_fields c.args.message.now)
+    (port_seen c.args.port) order_of short leaves leads)
     meets after)
     c.client_step.ensures.meets
 
@@ -29,11 +31,15 @@ returns-clause-headline g c =
     (λ out meets terms before short after.
     let leaves = (parts-of terms before c.args.self.now after).0 in
     let then_after =
-    client-after terms before c.args.self.now c.args.client c.args.message.now c.args.port out c.client_step.new.self short
+    client-after terms before c.args.self.now c.args.client c.args.message.now c.args.port out c.client_step.new.self
+    short
     client-turns said-of-order
     (λ client id o named. number-of terms before c.args.self.now.table client id o short leaves named)
-    (λ order_of leads. asked-found terms before c.args.self.now.table c.args.client (message_fields c.args.message.now) (port_seen c.args.port) order_of short leaves leads)
+    (λ order_of leads. asked-found terms before c.args.self.now.table c.args.client (message_fields c.args.message.now)
+    (port_seen c.args.port) order_of short leaves leads)
     meets after in
-    headline-of terms (client_turn c.args.client c.args.message.now c.args.port out ∷ before) c.client_step.new.self.table (omega (arith, short))
-    (parts-of terms (client_turn c.args.client c.args.message.now c.args.port out ∷ before) c.client_step.new.self then_after).0)
+    headline-of terms (client_turn c.args.client c.args.message.now c.args.port out ∷ before)
+    c.client_step.new.self.table (omega (arith, short))
+    (parts-of terms (client_turn c.args.client c.args.message.now c.args.port out ∷ before) c.client_step.new.self
+    then_after).0)
     c.client_step.ensures.meets

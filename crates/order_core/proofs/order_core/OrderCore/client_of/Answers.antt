@@ -10,11 +10,14 @@ use Rattle.order_core.proofs.order_core.OrderCore.client_of.Goals as goal
 pub returns-in-Some : goal.returns-in-Some
 returns-in-Some g c terms before short is =
     c.client_of_token.ensures
-    ∙ client-by-heard token-of terms before _ c.args.port (Some c.in-Some.token.now) short (subst (IsAfterTurns terms before) (sym c.self.view_is) is)
-    ∙ ap (λ (x : Option (List ℕ)). option_map (λ (new : Entry). new.client) (option_and_then (order_of_token terms c.args.port (accepted terms before)) x))
+    ∙ client-by-heard token-of terms before _ c.args.port (Some c.in-Some.token.now) short
+    (subst (IsAfterTurns terms before) (sym c.self.view_is) is)
+    ∙ ap (λ (x : Option (List ℕ)). option_map (λ (new : Entry). new.client)
+    (option_and_then (order_of_token terms c.args.port (accepted terms before)) x))
     (sym (ap token_of_heard (sym c.decode-heard.ensures) ∙ c.in-Some.ensures))
 
 pub returns-in-None : goal.returns-in-None
 returns-in-None g c terms before short is =
-    ap (λ (x : Option (List ℕ)). option_map (λ (new : Entry). new.client) (option_and_then (order_of_token terms c.args.port (accepted terms before)) x))
+    ap (λ (x : Option (List ℕ)). option_map (λ (new : Entry). new.client)
+    (option_and_then (order_of_token terms c.args.port (accepted terms before)) x))
     (sym (ap token_of_heard (sym c.decode-heard.ensures) ∙ c.in-None.ensures))

@@ -18,7 +18,8 @@ returns-clause-meets g c =
       bodies = refl;
       sends = c.sent_now.ensures;
       kept = c.push_reserved.ensures.pushed
-          ∙ kept-as c.reserve.new.self.messages c.self.inside.asked.messages c.port_of-its_port.result (terms_of c.self.inside.ledger.now.terms c.args.client).port
+          ∙ kept-as c.reserve.new.self.messages c.self.inside.asked.messages c.port_of-its_port.result
+          (terms_of c.self.inside.ledger.now.terms c.args.client).port
           (decimal c.in_ok-turn.turn.order_id) c.deref.result.now c.in_ok-turn.turn.asks.items
           c.in_ok-reserve.ensures.same c.port_of-its_port.ensures c.deref.ensures.value;
     })

@@ -7,4 +7,5 @@ use Rattle.order_core.proofs.order_core.OrderCore.open_count.Goals as goal
 pub returns : goal.returns
 returns g c terms before short is =
     c.open_count.ensures
-    ∙ open-of terms before _ short (table-left terms before _ (subst (IsAfterTurns terms before) (sym c.self.view_is) is)) c.args.client
+    ∙ open-of terms before _ short (table-left terms before _
+    (subst (IsAfterTurns terms before) (sym c.self.view_is) is)) c.args.client

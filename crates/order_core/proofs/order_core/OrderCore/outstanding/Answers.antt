@@ -13,7 +13,9 @@ returns g c =
     IfOk-weaker c.on_port.result _ _
     (λ messages are terms before short after.
     let parts = parts-of terms before c.args.self.now after in
-    let same : bytes_on c.args.port c.self.inside.asked.messages ≡ bytes_on c.args.port c.args.self.now.kept = ap (λ (s : OrderCoreState). bytes_on c.args.port s.kept) c.self.view_is in
-    subst (λ (bytes : List (List ℕ)). EachWith (SaysIn terms before c.args.port) (outstanding terms c.args.port before) bytes) (sym (are ∙ same))
+    let same : bytes_on c.args.port c.self.inside.asked.messages ≡ bytes_on c.args.port c.args.self.now.kept =
+    ap (λ (s : OrderCoreState). bytes_on c.args.port s.kept) c.self.view_is in
+    subst (λ (bytes : List (List ℕ)). EachWith (SaysIn terms before c.args.port)
+    (outstanding terms c.args.port before) bytes) (sym (are ∙ same))
     (outstanding-is_kept terms before c.args.self.now.table short parts.0 c.args.self.now.kept parts.1 c.args.port))
     c.on_port.ensures

@@ -10,14 +10,22 @@ use Rattle.order_ledger.proofs.Used.{room-in, used-leads}
 use Rattle.order_ledger.proofs.used_ids.UsedIds.push.Goals as goal
 
 pub note-requires : goal.note-requires
-note-requires g c = record { room = (room-in c.self.inside.ids.pushes c.self.inside.keys.room (subst (λ (u : Undoable UsedId). 1 ≤ u.pushes) (sym c.self.view_is) c.requires)).1 }
+note-requires g c = record {
+  room = (room-in c.self.inside.ids.pushes c.self.inside.keys.room
+      (subst (λ (u : Undoable UsedId). 1 ≤ u.pushes) (sym c.self.view_is) c.requires)).1;
+}
 
 pub push-requires : goal.push-requires
-push-requires g c = (room-in c.self.inside.ids.pushes c.self.inside.keys.room (subst (λ (u : Undoable UsedId). 1 ≤ u.pushes) (sym c.self.view_is) c.requires)).0
+push-requires g c = (room-in c.self.inside.ids.pushes c.self.inside.keys.room
+    (subst (λ (u : Undoable UsedId). 1 ≤ u.pushes) (sym c.self.view_is) c.requires)).0
 
 pub invariant_of-self : goal.invariant_of-self
 invariant_of-self g c =
     let place = length c.as_slice-place.result.now in
     covered-pushed same_key has_used_key c.note.new.self c.self.inside.ids c.push.new.self c.args.id place
-    (used-leads c.note.new.self c.args.id place (subst (λ (k : TextKey). LeadsTo (hint_of same_key c.note.new.self k) place) (c.of-key.ensures ∙ ap (λ (bs : List ℕ). text_key c.id.inside.client bs) c.as_slice.ensures.bytes ∙ ap (λ (u : UsedId). text_key u.client u.id) c.id.view_is) c.note.ensures.leads))
-    c.push.ensures.settled (c.note.ensures.covered c.self.invariant) (sym (ap (λ (xs : List UsedId). length xs) c.as_slice-place.ensures)) c.push.ensures.now
+    (used-leads c.note.new.self c.args.id place
+    (subst (λ (k : TextKey). LeadsTo (hint_of same_key c.note.new.self k) place)
+    (c.of-key.ensures ∙ ap (λ (bs : List ℕ). text_key c.id.inside.client bs) c.as_slice.ensures.bytes
+    ∙ ap (λ (u : UsedId). text_key u.client u.id) c.id.view_is) c.note.ensures.leads))
+    c.push.ensures.settled (c.note.ensures.covered c.self.invariant)
+    (sym (ap (λ (xs : List UsedId). length xs) c.as_slice-place.ensures)) c.push.ensures.now

@@ -8,6 +8,9 @@ pub returns-then-self : goal.returns-then-self
 returns-then-self c = λ side.
     let leads : List ℕ = c.self.inside.chains in
     let root = c.args.root.now in
-    ap (λ (ms : List Outbound). life root side (reverse ms)) (c.shelf.ensures ∙ ap (λ (k : ℕ). get_or c.self.inside.shelves k []) c.lead.ensures.place)
-    ∙ (on-shelf leads c.self.inside.heard.items c.self.inside.shelves root side (subst (λ (k : ℕ). k < length leads) c.lead.ensures.place c.lead.ensures.within) (c.self.invariant c.if-self.true)
+    ap (λ (ms : List Outbound). life root side (reverse ms))
+    (c.shelf.ensures ∙ ap (λ (k : ℕ). get_or c.self.inside.shelves k []) c.lead.ensures.place)
+    ∙ (on-shelf leads c.self.inside.heard.items c.self.inside.shelves root side
+    (subst (λ (k : ℕ). k < length leads) c.lead.ensures.place c.lead.ensures.within)
+    (c.self.invariant c.if-self.true)
     ∙ ap (λ (ms : List Outbound). life root side (reverse ms)) c.self.view_is)

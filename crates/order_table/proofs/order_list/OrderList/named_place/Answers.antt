@@ -14,12 +14,19 @@ use Rattle.order_table.proofs.order_list.OrderList.named_place.Goals as goal
 
 pub place_of-requires : goal.place_of-requires
 place_of-requires g c =
-    subst (λ (xs : List OrderRecord). LedBy (hint_of same_name c.self.inside.names c.of-key.result) (is_named c.args.client c.args.id.now) xs) (sym c.as_slice.ensures)
-    (subst (λ (k : NameKey). LedBy (hint_of same_name c.self.inside.names k) (is_named c.args.client c.args.id.now) c.self.inside.orders.now) (sym c.of-key.ensures)
-    (led-by same_name has_name_key c.self.inside.names c.self.inside.orders.now (name_key c.args.client c.args.id.now) (is_named c.args.client c.args.id.now) c.self.invariant.1.now
+    subst (λ (xs : List OrderRecord). LedBy (hint_of same_name c.self.inside.names c.of-key.result)
+    (is_named c.args.client c.args.id.now) xs) (sym c.as_slice.ensures)
+    (subst (λ (k : NameKey). LedBy (hint_of same_name c.self.inside.names k)
+    (is_named c.args.client c.args.id.now) c.self.inside.orders.now) (sym c.of-key.ensures)
+    (led-by same_name has_name_key c.self.inside.names c.self.inside.orders.now (name_key c.args.client c.args.id.now)
+    (is_named c.args.client c.args.id.now) c.self.invariant.1.now
     (named-key c.args.client c.args.id.now)))
 
 pub returns : goal.returns
 returns g c =
-    subst (λ (u : Undoable OrderRecord). MatchOption c.place_of.result (find (is_named c.args.client c.args.id.now) (reverse u.now) ≡ None) (λ place. IsNewest (is_named c.args.client c.args.id.now) u.now place)) c.self.view_is
-    (subst (λ (xs : List OrderRecord). MatchOption c.place_of.result (find (is_named c.args.client c.args.id.now) (reverse xs) ≡ None) (λ place. IsNewest (is_named c.args.client c.args.id.now) xs place)) c.as_slice.ensures c.place_of.ensures)
+    subst (λ (u : Undoable OrderRecord). MatchOption c.place_of.result
+    (find (is_named c.args.client c.args.id.now) (reverse u.now) ≡ None)
+    (λ place. IsNewest (is_named c.args.client c.args.id.now) u.now place)) c.self.view_is
+    (subst (λ (xs : List OrderRecord). MatchOption c.place_of.result
+    (find (is_named c.args.client c.args.id.now) (reverse xs) ≡ None)
+    (λ place. IsNewest (is_named c.args.client c.args.id.now) xs place)) c.as_slice.ensures c.place_of.ensures)

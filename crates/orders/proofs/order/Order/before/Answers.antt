@@ -16,9 +16,12 @@ returns-in_ok-unmarked c =
     let left = leaves change o in
     let marks : marks_trades change ≡ true = sym c.marks_trades.ensures ∙ c.if-marks_trades.true in
     let told : reverse (map told_seen c.in_ok-unmarked.unmarked.items) ≡ o.trades =
-    ap (λ (ts : List ToldTrade). reverse (map told_seen ts)) (c.in_ok-unmarked.ensures.items ∙ c.deref.ensures.value) ∙ ap (λ (x : OrderRecord). x.trades) c.self.view_is in
+    ap (λ (ts : List ToldTrade). reverse (map told_seen ts)) (c.in_ok-unmarked.ensures.items ∙ c.deref.ensures.value)
+    ∙ ap (λ (x : OrderRecord). x.trades) c.self.view_is in
     IfOk-weaker c.before_with.result _ _
-    (λ earlier back. back (changed_by change o) (goes-on (marks_trades change) (renames change) o (changed_by change o) None (Unmarked c.in_ok-unmarked.unmarked) left (left.id (marked-named change marks)) told))
+    (λ earlier back. back (changed_by change o)
+    (goes-on (marks_trades change) (renames change) o (changed_by change o) None
+    (Unmarked c.in_ok-unmarked.unmarked) left (left.id (marked-named change marks)) told))
     c.before_with.ensures
 
 pub returns-in_ok-cl_ord_id : goal.returns-in_ok-cl_ord_id
@@ -27,11 +30,14 @@ returns-in_ok-cl_ord_id c =
     let change = c.args.change in
     let left = leaves change o in
     let marks : marks_trades change ≡ false = sym c.marks_trades.ensures ∙ c.if-marks_trades.false in
-    let id : c.in_ok-cl_ord_id.cl_ord_id ≡ o.id = c.in_ok-cl_ord_id.ensures ∙ c.as_slice.ensures.bytes ∙ ap (λ (x : OrderRecord). x.id) c.self.view_is in
+    let id : c.in_ok-cl_ord_id.cl_ord_id ≡ o.id = c.in_ok-cl_ord_id.ensures ∙ c.as_slice.ensures.bytes
+    ∙ ap (λ (x : OrderRecord). x.id) c.self.view_is in
     IfOk-weaker c.before_with-then-renames.result _ _
     (λ earlier back. back (changed_by change o)
-    (goes-on (marks_trades change) (renames change) o (changed_by change o) (Some c.in_ok-cl_ord_id.cl_ord_id) c.trades_so_far.result left id
-    (first-trades (marks_trades change) (renames change) o (changed_by change o) c.trades_so_far.result left marks c.trades_so_far.ensures.trades)))
+    (goes-on (marks_trades change) (renames change) o (changed_by change o)
+    (Some c.in_ok-cl_ord_id.cl_ord_id) c.trades_so_far.result left id
+    (first-trades (marks_trades change) (renames change) o
+    (changed_by change o) c.trades_so_far.result left marks c.trades_so_far.ensures.trades)))
     c.before_with-then-renames.ensures
 
 pub returns-else-renames : goal.returns-else-renames
@@ -43,6 +49,9 @@ returns-else-renames c =
     let named : renames change ≡ false = sym c.renames.ensures ∙ c.if-renames.false in
     IfOk-weaker c.before_with-else-renames.result _ _
     (λ earlier back. back (changed_by change o)
-    (goes-on (marks_trades change) (renames change) o (changed_by change o) None c.trades_so_far-else-renames.result left (left.id named)
-    (first-trades (marks_trades change) (renames change) o (changed_by change o) c.trades_so_far-else-renames.result left marks c.trades_so_far-else-renames.ensures.trades)))
+    (goes-on (marks_trades change) (renames change) o
+    (changed_by change o) None c.trades_so_far-else-renames.result left (left.id named)
+    (first-trades (marks_trades change) (renames change) o
+    (changed_by change o) c.trades_so_far-else-renames.result left marks
+    c.trades_so_far-else-renames.ensures.trades)))
     c.before_with-else-renames.ensures

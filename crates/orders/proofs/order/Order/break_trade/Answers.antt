@@ -8,9 +8,12 @@ use Rattle.orders.proofs.order.Order.break_trade.Goals as goal
 
 pub returns : goal.returns
 returns c =
-    let trades : reverse (map told_seen c.mark.new.trades.items) ≡ map (mark c.args.told.trade.match_number) (reverse (map told_seen c.self.inside.trades.items)) =
-    ap (λ ts. reverse (map told_seen ts)) c.mark.ensures ∙ marked-seen c.args.told.trade.match_number c.self.inside.trades.items in
+    let trades : reverse (map told_seen c.mark.new.trades.items)
+    ≡ map (mark c.args.told.trade.match_number) (reverse (map told_seen c.self.inside.trades.items)) =
+    ap (λ ts. reverse (map told_seen ts)) c.mark.ensures
+    ∙ marked-seen c.args.told.trade.match_number c.self.inside.trades.items in
     let is = c.broken-self-inside.ensures in
-    broken-is c.args.told (the_view c.self.inside) c.broken-self-inside.result (reverse (map told_seen c.mark.new.trades.items)) trades
+    broken-is c.args.told (the_view c.self.inside) c.broken-self-inside.result
+    (reverse (map told_seen c.mark.new.trades.items)) trades
     is.stage is.refused is.total_closed is.total_open is.price is.unfilled is.executed is.cancelled is.value
     ∙ ap (with_trade_broken (told_seen c.args.told)) c.self.view_is

@@ -13,11 +13,19 @@ pub returns : goal.returns
 returns c =
     let o = c.self.inside in
     let seen = cancel_seen o.client o.order_id in
-    let test = λ (token : List ℕ). list_any (bytes_eq token) (replacements (map (replace_seen o.client o.order_id) o.replaces)) in
+    let test = λ (token : List ℕ). list_any (bytes_eq token)
+    (replacements (map (replace_seen o.client o.order_id) o.replaces)) in
     let left : option_map seen c.without_replaces.result ≡ still_after test (option_map seen o.cancel) =
     c.without_replaces.ensures o.client o.order_id
-    ∙ ap (λ (x : Option Cancelling). still_after (has_token c.as_slice.result.now) (option_map seen x)) c.take.ensures.value
+    ∙ ap (λ (x : Option Cancelling). still_after (has_token c.as_slice.result.now) (option_map seen x))
+    c.take.ensures.value
     ∙ ap (λ (rs : List Replacing). still_after (has_token rs) (option_map seen o.cancel)) c.as_slice.ensures
-    ∙ ap (λ (t : List ℕ → Bool). still_after t (option_map seen o.cancel)) (has-tokens o.client o.order_id o.replaces) in
-    (λ j. record (the_view o) { replaces = map (replace_seen o.client o.order_id) (c.clear.ensures j); cancel = left j })
-    ∙ ap (λ (r : OrderRecord). at r [] (still_after (λ token. list_any (bytes_eq token) (replacements r.replaces)) r.cancel)) c.self.view_is
+    ∙ ap (λ (t : List ℕ → Bool). still_after t (option_map seen o.cancel)) (has-tokens o.client o.order_id o.replaces)
+    in
+    (λ j. record (the_view o) {
+      replaces = map (replace_seen o.client o.order_id) (c.clear.ensures j);
+      cancel =
+          left j;
+    })
+    ∙ ap (λ (r : OrderRecord). at r [] (still_after
+    (λ token. list_any (bytes_eq token) (replacements r.replaces)) r.cancel)) c.self.view_is

@@ -10,5 +10,6 @@ returns-else-is_same_token c =
     c.is_among.ensures
     ∙ ap (list_any (bytes_eq c.args.token.now)) c.deref.ensures.value
     ∙ sym (any-reverse (bytes_eq c.args.token.now) c.self.inside.earlier.items)
-    ∙ ap (λ (b : Bool). b || list_any (bytes_eq c.args.token.now) (reverse c.self.inside.earlier.items)) c.if-is_same_token.ensures
+    ∙ ap (λ (b : Bool). b || list_any (bytes_eq c.args.token.now) (reverse c.self.inside.earlier.items))
+    c.if-is_same_token.ensures
     ∙ ap (λ (o : OrderRecord). list_any (bytes_eq c.args.token.now) o.tokens) c.self.view_is

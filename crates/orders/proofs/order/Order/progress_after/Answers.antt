@@ -16,7 +16,8 @@ returns-in-Replaced-clause-after c =
     let same = c.self.view_is in
     let is = c.replaced.ensures in
     c.over_if-in-Replaced.ensures.after o
-    ∙ oldest-quantities is_dead c.replaced.result o i.client i.order_id i.replaces shares price (sym c.if-not-is_empty.ensures) is.stage
+    ∙ oldest-quantities is_dead c.replaced.result o i.client i.order_id i.replaces shares price
+    (sym c.if-not-is_empty.ensures) is.stage
     (is.refused ∙ ap (λ (x : OrderRecord). x.is_refused) same)
     (is.total ∙ ap (λ (x : OrderRecord). x.executed + shares) same)
     is.price
@@ -24,5 +25,6 @@ returns-in-Replaced-clause-after c =
     (is.executed ∙ ap (λ (x : OrderRecord). x.executed) same)
     (is.cancelled ∙ ap (λ (x : OrderRecord). x.cancelled) same)
     (is.value ∙ ap (λ (x : OrderRecord). x.value) same)
-    ∙ ap (λ (x : List Entry). with_quantities (replaced_as shares price is_dead o x) o) (ap (λ (x : OrderRecord). x.replaces) same)
+    ∙ ap (λ (x : List Entry). with_quantities (replaced_as shares price is_dead o x) o)
+    (ap (λ (x : OrderRecord). x.replaces) same)
     ∙ ap (λ (x : Change). with_quantities (changed_by x o) o) (sym c.in-Replaced.is)

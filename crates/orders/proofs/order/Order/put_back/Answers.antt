@@ -10,8 +10,10 @@ pub returns-then-can_have_had : goal.returns-then-can_have_had
 returns-then-can_have_had c =
     let e = c.args.earlier in
     let o = c.self.inside in
-    with-earlier-is e (the_view o) c.put_id_back.new.cl_ord_id (reverse c.truncate.new.self.items) (reverse (map told_seen c.put_trades_back.new.trades.items))
-    (map (replace_seen o.client o.order_id) c.put_requests_back.new.requests) (option_map (cancel_seen o.client o.order_id) c.put_requests_back-then-can_have_had.new.requests)
+    with-earlier-is e (the_view o) c.put_id_back.new.cl_ord_id (reverse c.truncate.new.self.items)
+    (reverse (map told_seen c.put_trades_back.new.trades.items))
+    (map (replace_seen o.client o.order_id) c.put_requests_back.new.requests)
+    (option_map (cancel_seen o.client o.order_id) c.put_requests_back-then-can_have_had.new.requests)
     c.put_id_back.ensures
     (ap reverse c.truncate.ensures.items ∙ oldest-of e.earlier_count o.earlier.items)
     (ap (λ ts. reverse (map told_seen ts)) c.put_trades_back.ensures.trades ∙ told-of e.trades o.trades.items)

@@ -20,7 +20,8 @@ returns-clause-messages c =
 
 pub returns-clause-settled : goal.returns-clause-settled
 returns-clause-settled c =
-    ap (λ (qs : List AskedMessage). map seen (take c.self.inside.count qs)) c.unmark.ensures ∙ unmarked-seen c.self.inside.count c.truncate.new.self.items
+    ap (λ (qs : List AskedMessage). map seen (take c.self.inside.count qs)) c.unmark.ensures
+    ∙ unmarked-seen c.self.inside.count c.truncate.new.self.items
     ∙ ap (λ (qs : List AskedMessage). map seen (take c.self.inside.count qs)) c.truncate.ensures.items
     ∙ ap (map seen) (take-take c.self.inside.count c.self.inside.count c.self.inside.messages.items (omega arith))
     ∙ ap (λ (h : HeldMessages). h.settled) c.self.view_is

@@ -13,5 +13,7 @@ returns-then-is_over-clause-fed c = λ stream passed f.
 pub returns-clause-fed : goal.returns-clause-fed
 returns-clause-fed c =
     let open_ : BeginsEmpty c.args.self.now.held → ⊥ = search rules in
-    let takes : OnOk c.put.result (Takes c.args.piece.now (length c.args.piece.now) c.args.self.now c.put.new.self.kept) = search rules in
-    on_ok_weaker c.put.result (λ t stream passed f. fed_put stream c.args.piece.now passed c.args.self.now c.put.new.self.kept open_ t.held f) takes
+    let takes : OnOk c.put.result (Takes c.args.piece.now (length c.args.piece.now) c.args.self.now c.put.new.self.kept)
+    = search rules in
+    on_ok_weaker c.put.result (λ t stream passed f. fed_put stream c.args.piece.now passed c.args.self.now
+    c.put.new.self.kept open_ t.held f) takes

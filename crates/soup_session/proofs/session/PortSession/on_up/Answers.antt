@@ -6,8 +6,12 @@ use Rattle.soup_session.proofs.session.PortSession.on_up.Goals as goal
 
 pub returns-clause-leaves : goal.returns-clause-leaves
 returns-clause-leaves c = λ terms before l.
-    rw c.take.ensures.port (leaves_more terms before c.self.inside.port (OnUp c.args.at) c.in_ok-answered.answered c.in_ok-answered.ensures (subst (λ (h : PortHeld). CallsLeave terms before h.port) (sym c.self.view_is) l))
+    rw c.take.ensures.port (leaves_more terms before c.self.inside.port
+    (OnUp c.args.at) c.in_ok-answered.answered c.in_ok-answered.ensures
+    (subst (λ (h : PortHeld). CallsLeave terms before h.port) (sym c.self.view_is) l))
 
 pub returns-clause-answers : goal.returns-clause-answers
 returns-clause-answers c = λ terms before l.
-    answers_call terms before c.self.inside.port (OnUp c.args.at) c.in_ok-answered.answered c.take.result c.in_ok-answered.ensures c.take.ensures.out c.take.ensures.delivered (subst (λ (h : PortHeld). CallsLeave terms before h.port) (sym c.self.view_is) l)
+    answers_call terms before c.self.inside.port
+    (OnUp c.args.at) c.in_ok-answered.answered c.take.result c.in_ok-answered.ensures c.take.ensures.out
+    c.take.ensures.delivered (subst (λ (h : PortHeld). CallsLeave terms before h.port) (sym c.self.view_is) l)

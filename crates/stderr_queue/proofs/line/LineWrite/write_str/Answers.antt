@@ -9,7 +9,8 @@ cut-next : (text bytes : List ℕ) (i : ℕ) → i < length bytes
     → cut text (drop i bytes) ≡ cut (appended text (shown_byte (get_or bytes i 0))) (drop (i + 1) bytes)
 cut-next text bytes i lt =
     let on : suc i ≡ i + 1 = omega arith in
-    ap (cut text) (drop-cons bytes i 0 lt) ∙ ap (λ n. cut (appended text (shown_byte (get_or bytes i 0))) (drop n bytes)) on
+    ap (cut text) (drop-cons bytes i 0 lt) ∙ ap
+    (λ n. cut (appended text (shown_byte (get_or bytes i 0))) (drop n bytes)) on
 
 pub loop-byte-preserved : goal.loop-byte-preserved
 loop-byte-preserved c =

@@ -5,4 +5,5 @@ use Rattle.stderr_queue.specs.Line.{line_text}
 use Rattle.stderr_queue.proofs.line.LineWrite.write_str.Given as goal
 
 abbrev pub invariant-loop-byte : goal.invariant-loop-byte
-invariant-loop-byte l = cut (line_text l.self) (drop l.byte-index l.byte-items) ≡ cut (line_text l.initial.self) l.byte-items
+invariant-loop-byte l = cut (line_text l.self) (drop l.byte-index l.byte-items)
+    ≡ cut (line_text l.initial.self) l.byte-items

@@ -8,5 +8,6 @@ abbrev pub invariant-loop : goal.invariant-loop
 invariant-loop g l = record {
   going : l.self.is_over ≡ false;
   none : HasNoNewline l.line.items;
-  taken : Consumes (prepend_known l.initial.self.piece (g.R.Read.remaining l.initial.input)) (prepend_known l.self.piece (g.R.Read.remaining l.input)) l.line.items;
+  taken : Consumes (prepend_known l.initial.self.piece (g.R.Read.remaining l.initial.input))
+      (prepend_known l.self.piece (g.R.Read.remaining l.input)) l.line.items;
 }

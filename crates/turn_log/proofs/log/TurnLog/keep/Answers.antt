@@ -12,12 +12,15 @@ use Rattle.turn_log.proofs.log.TurnLog.keep.Goals as goal
 pub returns-then-eq-clause-told : goal.returns-then-eq-clause-told
 returns-then-eq-clause-told g c before has more =
     let pages : List (Vec ℕ Global) = c.pages-pages.result.now in
-    let is = same-marks c.mark_at.result.pages c.self.inside.mark.pages c.mark_at.result.bytes c.self.inside.mark.bytes c.mark_at.result.records c.self.inside.mark.records (sym c.eq.ensures ∙ c.if-eq.true) in
+    let is = same-marks c.mark_at.result.pages c.self.inside.mark.pages c.mark_at.result.bytes c.self.inside.mark.bytes
+    c.mark_at.result.records c.self.inside.mark.records (sym c.eq.ensures ∙ c.if-eq.true) in
     let view = c.self.view_is in
     let now = c.pages-pages.ensures.pages in
     same-day g.F.LogFile.seen g.F.LogFile.may_leave before c.args.history.now.pages c.args.self.now more
-    (ap length (sym now) ∙ length-map pages (λ (v : Vec ℕ Global). v.items) ∙ sym c.mark_at.ensures.pages ∙ is.0 ∙ ap (λ (l : TurnLogState g.row.F.Denot). l.pages) view)
-    (ap last_size (sym now) ∙ sym c.mark_at.ensures.bytes ∙ is.1 ∙ ap (λ (l : TurnLogState g.row.F.Denot). l.bytes) view)
+    (ap length (sym now) ∙ length-map pages (λ (v : Vec ℕ Global). v.items) ∙ sym c.mark_at.ensures.pages ∙ is.0
+    ∙ ap (λ (l : TurnLogState g.row.F.Denot). l.pages) view)
+    (ap last_size (sym now) ∙ sym c.mark_at.ensures.bytes ∙ is.1
+    ∙ ap (λ (l : TurnLogState g.row.F.Denot). l.bytes) view)
     has
 
 pub returns-clause-told : goal.returns-clause-told
@@ -31,7 +34,9 @@ returns-clause-told g c before has more =
       bytes = c.self.inside.mark.bytes;
       records = c.self.inside.mark.records;
     } in
-    let was : HasDay g.F.LogFile.seen g.F.LogFile.may_leave before old = subst (λ (l : TurnLogState g.row.F.Denot). HasDay g.F.LogFile.seen g.F.LogFile.may_leave before l) (sym c.self.view_is) has in
+    let was : HasDay g.F.LogFile.seen g.F.LogFile.may_leave before old =
+    subst (λ (l : TurnLogState g.row.F.Denot). HasDay g.F.LogFile.seen g.F.LogFile.may_leave before l)
+    (sym c.self.view_is) has in
     let now = c.pages-pages.ensures.pages in
     let further : IsMoreOf before (texts pages) = subst (IsMoreOf before) (sym now) more in
     let same = c.in_ok-put_page.ensures.none in
@@ -43,9 +48,16 @@ returns-clause-told g c before has more =
       records = c.mark_at-self-inside.result.records;
     } in
     subst (λ (ps : List (List ℕ)). HasDay g.F.LogFile.seen g.F.LogFile.may_leave ps new) now
-    (put-day g.F.LogFile.seen g.F.LogFile.may_leave before pages page old c.put_page.new.log.file c.put_page.new.log.shut was further c.pages-pages.ensures.day
+    (put-day g.F.LogFile.seen g.F.LogFile.may_leave before pages page old c.put_page.new.log.file
+    c.put_page.new.log.shut was further c.pages-pages.ensures.day
     (c.as_slice.ensures.value ∙ c.in_ok-page.ensures)
-    (λ short. (ap (λ (l : LogState g.row.F.Denot). l.file) (same short), ap (λ (l : LogState g.row.F.Denot). l.shut) (same short)))
+    (λ short. (
+      ap (λ (l : LogState g.row.F.Denot). l.file) (same short),
+      ap (λ (l : LogState g.row.F.Denot). l.shut)
+          (same short),
+    ))
     c.in_ok-put_page.ensures.some c.in_ok-put_page.ensures.goes_on
     new refl refl c.mark_at-self-inside.ensures.pages c.mark_at-self-inside.ensures.bytes
-    (c.mark_at-self-inside.ensures.records ∙ ap (λ n. (c.self.inside.mark.records + n) % 2 ^ 64) (c.count_in_page.ensures ∙ ap (λ (l : List ℕ). length (page_records Two l) % 2 ^ 64) (c.as_slice-2.ensures.value ∙ sym c.as_slice.ensures.value))))
+    (c.mark_at-self-inside.ensures.records ∙ ap (λ n. (c.self.inside.mark.records + n) % 2 ^ 64)
+    (c.count_in_page.ensures ∙ ap (λ (l : List ℕ). length (page_records Two l) % 2 ^ 64)
+    (c.as_slice-2.ensures.value ∙ sym c.as_slice.ensures.value))))

@@ -6,6 +6,8 @@ use Rattle.undo_list.proofs.list.UndoList.is_still.Goals as goal
 
 pub returns : goal.returns
 returns g c = λ e.
-    let none : vec_len c.self.inside.changed ≡ 0 = eqb-true (vec_len c.self.inside.changed) 0 (sym c.is_empty.ensures ∙ e) in
+    let none : vec_len c.self.inside.changed ≡ 0 =
+    eqb-true (vec_len c.self.inside.changed) 0 (sym c.is_empty.ensures ∙ e) in
     let few : length c.self.inside.changed.items ≡ 0 = omega (arith, none, c.self.inside.changed.ok) in
-    subst (λ (u : Undoable g.row.T.Denot). IsWithin u.settled u.now) c.self.view_is (settled-still c.self.inside.count c.self.inside.changed.items c.self.inside.items.items few)
+    subst (λ (u : Undoable g.row.T.Denot). IsWithin u.settled u.now) c.self.view_is
+    (settled-still c.self.inside.count c.self.inside.changed.items c.self.inside.items.items few)

@@ -4,7 +4,8 @@ use Rattle.undo_list.proofs.list.UndoList.undo.Given as goal
 
 abbrev pub invariant-loop-was : goal.invariant-loop-was
 invariant-loop-was g l =
-    (restored (reverse l.self-inside.changed.items) l.self-inside.items.items ≡ l.fn.self.settled) × (length l.self-inside.items.items ≡ l.self-inside.count)
+    (restored (reverse l.self-inside.changed.items) l.self-inside.items.items ≡ l.fn.self.settled)
+    × (length l.self-inside.items.items ≡ l.self-inside.count)
 
 abbrev pub decreases-loop-was : goal.decreases-loop-was
 decreases-loop-was g l = length l.self-inside.changed.items

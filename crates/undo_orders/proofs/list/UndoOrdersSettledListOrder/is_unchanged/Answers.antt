@@ -7,6 +7,8 @@ use Rattle.undo_orders.proofs.list.UndoOrdersSettledListOrder.is_unchanged.Goals
 
 pub returns : goal.returns
 returns c = λ e.
-    let none : vec_len c.self.inside.changed ≡ 0 = eqb-true (vec_len c.self.inside.changed) 0 (sym c.is_empty.ensures ∙ e) in
+    let none : vec_len c.self.inside.changed ≡ 0 =
+    eqb-true (vec_len c.self.inside.changed) 0 (sym c.is_empty.ensures ∙ e) in
     let few : length c.self.inside.changed.items ≡ 0 = omega (arith, none, c.self.inside.changed.ok) in
-    subst (λ (u : Undoable OrderRecord). IsWithin u.settled u.now) c.self.view_is (settled-still c.self.inside.count c.self.inside.changed.items c.self.inside.orders.items few)
+    subst (λ (u : Undoable OrderRecord). IsWithin u.settled u.now) c.self.view_is
+    (settled-still c.self.inside.count c.self.inside.changed.items c.self.inside.orders.items few)

@@ -6,5 +6,6 @@ use Rattle.world_ports.proofs.port_line.PortLine.come.Goals as goal
 
 pub returns : goal.returns
 returns c =
-    let bytes : list_all is_byte c.args.packet.payload ≡ true = ap (list_all is_byte) (sym c.as_slice.ensures.bytes) ∙ c.are_bytes.ensures in
+    let bytes : list_all is_byte c.args.packet.payload ≡ true = ap (list_all is_byte) (sym c.as_slice.ensures.bytes)
+    ∙ c.are_bytes.ensures in
     IfOk-weaker c.comes.result _ _ (λ u made. (made.0, bytes, made.1, made.2)) c.comes.ensures

@@ -3,7 +3,8 @@ use Rattle.std.proofs.lemmas.Bool.{false≢true}
 use Rattle.ouch_codec.specs.Layout.{IsMessage, ◌⨾◌}
 use Rattle.ouch_codec.specs.Layouts.{enter_order_layout}
 use Rattle.ouch_codec.specs.EnterOrderLaws.{enter_order_of}
-use Rattle.ouch_codec.proofs.Reading.{AreBytes, row_at, AreValues-row_at, spelled-read, message-in_sets, in_sets-message, no_message, nothing, no_value}
+use Rattle.ouch_codec.proofs.Reading.{AreBytes, row_at, AreValues-row_at, spelled-read, message-in_sets}
+use Rattle.ouch_codec.proofs.Reading.{in_sets-message, no_message, nothing, no_value}
 use Rattle.ouch_codec.proofs.inbound.enter_order.EnterOrderFixedWire.get.Goals as goal
 
 pub returns-then-not-is_of_type-clause-spelled : goal.returns-then-not-is_of_type-clause-spelled
@@ -13,41 +14,65 @@ returns-then-not-is_of_type-clause-spelled c =
     false≢true (sym c.if-not-is_of_type.true ∙ c.is_of_type.ensures.1 (in_sets.0, in_sets.1.0)))
 
 pub returns-in_err-text_at-clause-spelled : goal.returns-in_err-text_at-clause-spelled
-returns-in_err-text_at-clause-spelled c = no_value _ _ c.from_residual.ensures (no_message enter_order_layout 1 c.args.b.now c.in_err-text_at.ensures)
+returns-in_err-text_at-clause-spelled c =
+    no_value _ _ c.from_residual.ensures (no_message enter_order_layout 1 c.args.b.now c.in_err-text_at.ensures)
 
 pub returns-in_err-side_at-clause-spelled : goal.returns-in_err-side_at-clause-spelled
-returns-in_err-side_at-clause-spelled c = no_value _ _ c.from_residual-in_err-side_at.ensures (no_message enter_order_layout 2 c.args.b.now c.in_err-side_at.ensures)
+returns-in_err-side_at-clause-spelled c =
+    no_value _ _ c.from_residual-in_err-side_at.ensures
+    (no_message enter_order_layout 2 c.args.b.now c.in_err-side_at.ensures)
 
 pub returns-in_err-shares_at-clause-spelled : goal.returns-in_err-shares_at-clause-spelled
-returns-in_err-shares_at-clause-spelled c = no_value _ _ c.from_residual-in_err-shares_at.ensures (no_message enter_order_layout 3 c.args.b.now c.in_err-shares_at.ensures)
+returns-in_err-shares_at-clause-spelled c =
+    no_value _ _ c.from_residual-in_err-shares_at.ensures
+    (no_message enter_order_layout 3 c.args.b.now c.in_err-shares_at.ensures)
 
 pub returns-in_err-text_at-2-clause-spelled : goal.returns-in_err-text_at-2-clause-spelled
-returns-in_err-text_at-2-clause-spelled c = no_value _ _ c.from_residual-in_err-text_at-2.ensures (no_message enter_order_layout 4 c.args.b.now c.in_err-text_at-2.ensures)
+returns-in_err-text_at-2-clause-spelled c =
+    no_value _ _ c.from_residual-in_err-text_at-2.ensures
+    (no_message enter_order_layout 4 c.args.b.now c.in_err-text_at-2.ensures)
 
 pub returns-in_err-text_at-3-clause-spelled : goal.returns-in_err-text_at-3-clause-spelled
-returns-in_err-text_at-3-clause-spelled c = no_value _ _ c.from_residual-in_err-text_at-3.ensures (no_message enter_order_layout 7 c.args.b.now c.in_err-text_at-3.ensures)
+returns-in_err-text_at-3-clause-spelled c =
+    no_value _ _ c.from_residual-in_err-text_at-3.ensures
+    (no_message enter_order_layout 7 c.args.b.now c.in_err-text_at-3.ensures)
 
 pub returns-in_err-printable_at-clause-spelled : goal.returns-in_err-printable_at-clause-spelled
-returns-in_err-printable_at-clause-spelled c = no_value _ _ c.from_residual-in_err-printable_at.ensures (no_message enter_order_layout 8 c.args.b.now c.in_err-printable_at.ensures)
+returns-in_err-printable_at-clause-spelled c =
+    no_value _ _ c.from_residual-in_err-printable_at.ensures
+    (no_message enter_order_layout 8 c.args.b.now c.in_err-printable_at.ensures)
 
 pub returns-in_err-printable_at-2-clause-spelled : goal.returns-in_err-printable_at-2-clause-spelled
-returns-in_err-printable_at-2-clause-spelled c = no_value _ _ c.from_residual-in_err-printable_at-2.ensures (no_message enter_order_layout 9 c.args.b.now c.in_err-printable_at-2.ensures)
+returns-in_err-printable_at-2-clause-spelled c =
+    no_value _ _ c.from_residual-in_err-printable_at-2.ensures
+    (no_message enter_order_layout 9 c.args.b.now c.in_err-printable_at-2.ensures)
 
 pub returns-in_err-printable_at-3-clause-spelled : goal.returns-in_err-printable_at-3-clause-spelled
-returns-in_err-printable_at-3-clause-spelled c = no_value _ _ c.from_residual-in_err-printable_at-3.ensures (no_message enter_order_layout 10 c.args.b.now c.in_err-printable_at-3.ensures)
+returns-in_err-printable_at-3-clause-spelled c =
+    no_value _ _ c.from_residual-in_err-printable_at-3.ensures
+    (no_message enter_order_layout 10 c.args.b.now c.in_err-printable_at-3.ensures)
 
 pub returns-in_err-printable_at-4-clause-spelled : goal.returns-in_err-printable_at-4-clause-spelled
-returns-in_err-printable_at-4-clause-spelled c = no_value _ _ c.from_residual-in_err-printable_at-4.ensures (no_message enter_order_layout 12 c.args.b.now c.in_err-printable_at-4.ensures)
+returns-in_err-printable_at-4-clause-spelled c =
+    no_value _ _ c.from_residual-in_err-printable_at-4.ensures
+    (no_message enter_order_layout 12 c.args.b.now c.in_err-printable_at-4.ensures)
 
 pub returns-in_err-printable_at-5-clause-spelled : goal.returns-in_err-printable_at-5-clause-spelled
-returns-in_err-printable_at-5-clause-spelled c = no_value _ _ c.from_residual-in_err-printable_at-5.ensures (no_message enter_order_layout 13 c.args.b.now c.in_err-printable_at-5.ensures)
+returns-in_err-printable_at-5-clause-spelled c =
+    no_value _ _ c.from_residual-in_err-printable_at-5.ensures
+    (no_message enter_order_layout 13 c.args.b.now c.in_err-printable_at-5.ensures)
 
 pub invariant_of-result : goal.invariant_of-result
 invariant_of-result c =
     let b = c.args.b.now in
     let below : AreBytes b = λ i. omega (arith, c.type_inv.b i) in
     let of_type = c.is_of_type.ensures.0 c.if-not-is_of_type.false in
-    let message : IsMessage enter_order_layout b = message-in_sets enter_order_layout b of_type.0 (of_type.1 ⨾ c.in_ok-text_at.ensures.0 ⨾ c.in_ok-side_at.ensures.0 ⨾ c.in_ok-shares_at.ensures.0 ⨾ c.in_ok-text_at-2.ensures.0 ⨾ refl ⨾ refl ⨾ c.in_ok-text_at-3.ensures.0 ⨾ c.in_ok-printable_at.ensures.0 ⨾ c.in_ok-printable_at-2.ensures.0 ⨾ c.in_ok-printable_at-3.ensures.0 ⨾ refl ⨾ c.in_ok-printable_at-4.ensures.0 ⨾ c.in_ok-printable_at-5.ensures.0 ⨾ tt) in
+    let message : IsMessage enter_order_layout b =
+    message-in_sets enter_order_layout b of_type.0
+    (of_type.1 ⨾ c.in_ok-text_at.ensures.0 ⨾ c.in_ok-side_at.ensures.0 ⨾ c.in_ok-shares_at.ensures.0 ⨾
+    c.in_ok-text_at-2.ensures.0 ⨾ refl ⨾ refl ⨾ c.in_ok-text_at-3.ensures.0 ⨾ c.in_ok-printable_at.ensures.0 ⨾
+    c.in_ok-printable_at-2.ensures.0 ⨾ c.in_ok-printable_at-3.ensures.0 ⨾ refl ⨾ c.in_ok-printable_at-4.ensures.0 ⨾
+    c.in_ok-printable_at-5.ensures.0 ⨾ tt) in
     let read = enter_order_of (row_at enter_order_layout 0 b) (AreValues-row_at enter_order_layout 0 b below message) in
     record {
       token_set = rw c.in_ok-text_at.ensures.1 read.token_set;
@@ -69,8 +94,21 @@ returns c =
     let b = c.args.b.now in
     let below : AreBytes b = λ i. omega (arith, c.type_inv.b i) in
     let of_type = c.is_of_type.ensures.0 c.if-not-is_of_type.false in
-    let message : IsMessage enter_order_layout b = message-in_sets enter_order_layout b of_type.0 (of_type.1 ⨾ c.in_ok-text_at.ensures.0 ⨾ c.in_ok-side_at.ensures.0 ⨾ c.in_ok-shares_at.ensures.0 ⨾ c.in_ok-text_at-2.ensures.0 ⨾ refl ⨾ refl ⨾ c.in_ok-text_at-3.ensures.0 ⨾ c.in_ok-printable_at.ensures.0 ⨾ c.in_ok-printable_at-2.ensures.0 ⨾ c.in_ok-printable_at-3.ensures.0 ⨾ refl ⨾ c.in_ok-printable_at-4.ensures.0 ⨾ c.in_ok-printable_at-5.ensures.0 ⨾ tt) in
+    let message : IsMessage enter_order_layout b =
+    message-in_sets enter_order_layout b of_type.0
+    (of_type.1 ⨾ c.in_ok-text_at.ensures.0 ⨾ c.in_ok-side_at.ensures.0 ⨾ c.in_ok-shares_at.ensures.0 ⨾
+    c.in_ok-text_at-2.ensures.0 ⨾ refl ⨾ refl ⨾ c.in_ok-text_at-3.ensures.0 ⨾ c.in_ok-printable_at.ensures.0 ⨾
+    c.in_ok-printable_at-2.ensures.0 ⨾ c.in_ok-printable_at-3.ensures.0 ⨾ refl ⨾ c.in_ok-printable_at-4.ensures.0 ⨾
+    c.in_ok-printable_at-5.ensures.0 ⨾ tt) in
     record {
       spelled = (λ some. message, λ is. refl);
-      same = spelled-read enter_order_layout (tt ⨾ c.in_ok-text_at.field-0 ⨾ c.in_ok-side_at.field-0 ⨾ c.in_ok-shares_at.field-0 ⨾ c.in_ok-text_at-2.field-0 ⨾ c.number_at.result ⨾ c.number_at-2.result ⨾ c.in_ok-text_at-3.field-0 ⨾ c.in_ok-printable_at.field-0 ⨾ c.in_ok-printable_at-2.field-0 ⨾ c.in_ok-printable_at-3.field-0 ⨾ c.number_at-3.result ⨾ c.in_ok-printable_at-4.field-0 ⨾ c.in_ok-printable_at-5.field-0 ⨾ tt) b below message (refl ⨾ c.in_ok-text_at.ensures.1 ⨾ c.in_ok-side_at.ensures.1 ⨾ c.in_ok-shares_at.ensures.1 ⨾ c.in_ok-text_at-2.ensures.1 ⨾ c.number_at.ensures ⨾ c.number_at-2.ensures ⨾ c.in_ok-text_at-3.ensures.1 ⨾ c.in_ok-printable_at.ensures.1 ⨾ c.in_ok-printable_at-2.ensures.1 ⨾ c.in_ok-printable_at-3.ensures.1 ⨾ c.number_at-3.ensures ⨾ c.in_ok-printable_at-4.ensures.1 ⨾ c.in_ok-printable_at-5.ensures.1 ⨾ tt);
+      same = spelled-read enter_order_layout (tt ⨾ c.in_ok-text_at.field-0 ⨾ c.in_ok-side_at.field-0 ⨾
+          c.in_ok-shares_at.field-0 ⨾ c.in_ok-text_at-2.field-0 ⨾ c.number_at.result ⨾ c.number_at-2.result ⨾
+          c.in_ok-text_at-3.field-0 ⨾ c.in_ok-printable_at.field-0 ⨾ c.in_ok-printable_at-2.field-0 ⨾
+          c.in_ok-printable_at-3.field-0 ⨾ c.number_at-3.result ⨾ c.in_ok-printable_at-4.field-0 ⨾
+          c.in_ok-printable_at-5.field-0 ⨾ tt) b below message
+          (refl ⨾ c.in_ok-text_at.ensures.1 ⨾ c.in_ok-side_at.ensures.1 ⨾ c.in_ok-shares_at.ensures.1 ⨾
+          c.in_ok-text_at-2.ensures.1 ⨾ c.number_at.ensures ⨾ c.number_at-2.ensures ⨾ c.in_ok-text_at-3.ensures.1 ⨾
+          c.in_ok-printable_at.ensures.1 ⨾ c.in_ok-printable_at-2.ensures.1 ⨾ c.in_ok-printable_at-3.ensures.1 ⨾
+          c.number_at-3.ensures ⨾ c.in_ok-printable_at-4.ensures.1 ⨾ c.in_ok-printable_at-5.ensures.1 ⨾ tt);
     }

@@ -2,7 +2,8 @@ use Rattle.std.proofs.Common.{arith, refl, sym, ◌∙◌}
 use Rattle.std.proofs.lemmas.Bool.{false≢true}
 use Rattle.ouch_codec.specs.Layout.{IsMessage, ◌⨾◌}
 use Rattle.ouch_codec.specs.Layouts.{executed_layout}
-use Rattle.ouch_codec.proofs.Reading.{AreBytes, spelled-row_at, message-in_sets, in_sets-message, no_message, nothing, no_value}
+use Rattle.ouch_codec.proofs.Reading.{AreBytes, spelled-row_at, message-in_sets, in_sets-message, no_message, nothing}
+use Rattle.ouch_codec.proofs.Reading.{no_value}
 use Rattle.ouch_codec.proofs.outbound.executed.ExecutedFixedWire.get.Goals as goal
 
 pub returns-then-not-is_of_type-clause-spelled : goal.returns-then-not-is_of_type-clause-spelled
@@ -12,18 +13,31 @@ returns-then-not-is_of_type-clause-spelled c =
     false≢true (sym c.if-not-is_of_type.true ∙ c.is_of_type.ensures.1 (in_sets.0, in_sets.1.0)))
 
 pub returns-in_err-text_at-clause-spelled : goal.returns-in_err-text_at-clause-spelled
-returns-in_err-text_at-clause-spelled c = no_value _ _ c.from_residual.ensures (no_message executed_layout 2 c.args.b.now c.in_err-text_at.ensures)
+returns-in_err-text_at-clause-spelled c =
+    no_value _ _ c.from_residual.ensures (no_message executed_layout 2 c.args.b.now c.in_err-text_at.ensures)
 
 pub returns-in_err-printable_at-clause-spelled : goal.returns-in_err-printable_at-clause-spelled
-returns-in_err-printable_at-clause-spelled c = no_value _ _ c.from_residual-in_err-printable_at.ensures (no_message executed_layout 5 c.args.b.now c.in_err-printable_at.ensures)
+returns-in_err-printable_at-clause-spelled c =
+    no_value _ _ c.from_residual-in_err-printable_at.ensures
+    (no_message executed_layout 5 c.args.b.now c.in_err-printable_at.ensures)
 
 pub returns : goal.returns
 returns c =
     let b = c.args.b.now in
     let below : AreBytes b = λ i. omega (arith, c.type_inv.b i) in
     let of_type = c.is_of_type.ensures.0 c.if-not-is_of_type.false in
-    let message : IsMessage executed_layout b = message-in_sets executed_layout b of_type.0 (of_type.1 ⨾ refl ⨾ c.in_ok-text_at.ensures.0 ⨾ refl ⨾ refl ⨾ c.in_ok-printable_at.ensures.0 ⨾ refl ⨾ tt) in
+    let message : IsMessage executed_layout b =
+    message-in_sets executed_layout b of_type.0
+    (of_type.1 ⨾ refl ⨾ c.in_ok-text_at.ensures.0 ⨾ refl ⨾ refl ⨾ c.in_ok-printable_at.ensures.0 ⨾ refl ⨾ tt) in
     record {
       spelled = (λ some. message, λ is. refl);
-      same = rw (c.long_number_at.ensures, c.in_ok-text_at.ensures.1, c.number_at.ensures, c.number_at-2.ensures, c.in_ok-printable_at.ensures.1, c.long_number_at-2.ensures) (spelled-row_at executed_layout 0 b below message);
+      same = rw (
+        c.long_number_at.ensures,
+        c.in_ok-text_at.ensures.1,
+        c.number_at.ensures,
+        c.number_at-2.ensures,
+        c.in_ok-printable_at.ensures.1,
+        c.long_number_at-2.ensures,
+      )
+          (spelled-row_at executed_layout 0 b below message);
     }
