@@ -4,8 +4,8 @@
 #![tactic(auto)]
 
 mod marks;
-mod orders;
 mod wait;
+mod waiting;
 
-pub use orders::{orders_at, orders_wait};
 pub use wait::{PortWait, due_since, wait_after};
+pub use waiting::{orders_at, orders_wait};
