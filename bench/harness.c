@@ -243,7 +243,8 @@ static void issue_calls(void) {
     }
 }
 
-// The best time of a resend of so many bodies: of a session that is asked RESENDS times, less that of one that isn't asked.
+// The best time of a resend of so many bodies: of a session that is asked RESENDS times, less that of one that isn't
+// asked.
 static double best_resend(uint32_t bodies) {
     double least_without = 1e18;
     double least_with = 1e18;
@@ -321,7 +322,8 @@ static uint64_t requests(const char *request, size_t length, uint32_t taken) {
                           OPEN_ORDERS, taken);
 }
 
-// The best time of a request, where a day has one on each open order: of days with them, less that of days that end before.
+// The best time of a request, where a day has one on each open order: of days with them, less that of days that end
+// before.
 static double best_request(const char *request, size_t length) {
     uint32_t before = OPEN_ORDERS * STEPS_OF_OPEN;
     double least_without = 1e18;
@@ -531,8 +533,8 @@ static char *add_report(char *at, char *end, int number, int order, int report, 
     return add_frame(at, end, body);
 }
 
-// The whole core on a day of ten orders and one round writes just these frames and packets; each further round three frames and a
-// packet.
+// The whole core on a day of ten orders and one round writes just these frames and packets; each further round three
+// frames and a packet.
 static bool gateway_is_right(void) {
     static const char ANSWER[] = "35=A\00149=GATE\00156=C1\00134=1\00152=19700101-00:00:00.000\00198=0\001108=30\001";
     static const char LOGIN[] = "\000\057LUSER01PASSWORD                               1";

@@ -5,9 +5,9 @@
 // It listens on MARKET_PORT of loopback, connects to CLIENT_PORT, and has a process between the two, whose number is in
 // FILE by then: start it behind this one. Of ORDERS orders so many are outstanding at once. The market answers an order
 // by its Accepted and an Executed of the whole, in one write. Behind a fill it waits PAUSE microseconds before the next
-// order, where that is said. Printed are orders a second, nanoseconds from an order to its fill (half of them take less,
-// 99 in 100 do), and the processor time of that process an order. For a relay an order is 160 bytes and its answers are
-// 126, unparsed.
+// order, where that is said. Printed are orders a second, nanoseconds from an order to its fill (half of them take
+// less, 99 in 100 do), and the processor time of that process an order. For a relay an order is 160 bytes and its
+// answers are 126, unparsed.
 #include <arpa/inet.h>
 #include <netinet/tcp.h>
 #include <sys/socket.h>

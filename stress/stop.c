@@ -1,6 +1,6 @@
 // Notes in the first word of the file STRESS_STOP_FILE how long the file STRESS_STOP_JOURNAL was as it was synced last:
-// so much of it a machine that stops leaves for sure. Each sync takes up to STRESS_STOP_DELAY microseconds more, so that
-// a stop often comes before its end.
+// so much of it a machine that stops leaves for sure. Each sync takes up to STRESS_STOP_DELAY microseconds more, so
+// that a stop often comes before its end.
 #define _GNU_SOURCE
 #include <dlfcn.h>
 #include <fcntl.h>

@@ -18,8 +18,8 @@ use turn_log::{DayLog, LogFault, TurnLog};
 /// that is promised of that; the ends are those that the desk's name names; what came out of an inlet's ring is what
 /// the history has of its source; what went into an outlet's ring is what the batches told it, or a beginning of that.
 ///
-/// Where it has a journal, what a step tells waits beside the rings until the step is in the journal's file, durably: its
-/// type keeps that what went into an outlet's ring is a beginning of what the file's day tells.
+/// Where it has a journal, what a step tells waits beside the rings until the step is in the journal's file, durably:
+/// its type keeps that what went into an outlet's ring is a beginning of what the file's day tells.
 pub struct Desk<K: DeskName, S: BuildHasher + Drop = BuildHasherDefault<FoldHasher>> {
     recorded: RecordedCore<S>,
     side: Side,

@@ -236,8 +236,8 @@ impl<K: DeskName, S: BuildHasher + Drop> Shared<K, S> {
         self.is_lost.load(Ordering::SeqCst)
     }
 
-    /// Goes on with a log that has this day, once the lock could be had: where the history has just the day's events and
-    /// batches, what is stepped from now on is in the log, durably, before anybody is told.
+    /// Goes on with a log that has this day, once the lock could be had: where the history has just the day's events
+    /// and batches, what is stepped from now on is in the log, durably, before anybody is told.
     ///
     /// Else nothing is done, and it gives how many batches are the same before the first that differs. `AllocError`
     /// gives the log up.
@@ -328,8 +328,8 @@ impl<K: DeskName, S: BuildHasher + Drop> Shared<K, S> {
         desk.is_due(alloc, event)
     }
 
-    /// Why a frame of a client's link that isn't logged on is answered by the link's end alone (`Core::logon_fault`), once
-    /// the lock could be had.
+    /// Why a frame of a client's link that isn't logged on is answered by the link's end alone (`Core::logon_fault`),
+    /// once the lock could be had.
     pub fn logon_fault(
         &self,
         rt: &impl Wait,

@@ -146,7 +146,8 @@ where
 }
 
 /// Ends a day: writes its audit, looks whether its journal has it, where there is one, and names the orders that aren't
-/// over. The status is as `ended` has it, and 1 where not all of them could be named, or the day didn't come to its end.
+/// over. The status is as `ended` has it, and 1 where not all of them could be named, or the day didn't come to its
+/// end.
 fn status_of<R: Files<File = File>, W: Write, F: Write>(
     rt: &R,
     alloc: Global,

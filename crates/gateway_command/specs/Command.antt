@@ -118,11 +118,11 @@ unfoldable pub gateway_faults : List Text → Kinds
 gateway_faults words = fault_of gateway words
 
 -- what a command line asks for: the audit of a script's file; that of the day in a journal's file, by the settings in a
--- file, be it over alone or so far; the day of a script's file as a journal; a gateway by the settings in a file, with so
--- many links, or until it is told to end, and a file for its journal, which is synced at such moments; the end of the
--- gateway that is served by the settings in a file, at once or not; the end of a stopped day in a journal's file, by the
--- settings in a file; the messages of a journal's file, in a format; the demonstration, or one that is served until it
--- is told to end; or the closed world of a seed, with so many steps, clients and ports
+-- file, be it over alone or so far; the day of a script's file as a journal; a gateway by the settings in a file, with
+-- so many links, or until it is told to end, and a file for its journal, which is synced at such moments; the end of
+-- the gateway that is served by the settings in a file, at once or not; the end of a stopped day in a journal's file,
+-- by the settings in a file; the messages of a journal's file, in a format; the demonstration, or one that is served
+-- until it is told to end; or the closed world of a seed, with so many steps, clients and ports
 pub data Asking : Type 0 where
   Audits : (script : Text) → Asking
   AuditsDay : (journal : Text) (settings : Text) (so_far : Bool) → Asking
@@ -256,7 +256,8 @@ number_between least most digits =
     if not (length digits == 0) && list_all is_ascii_digit digits && nat_le least (number_of digits)
     && nat_le (number_of digits) most then Some (number_of digits) else None
 
--- when a journal is synced: with each write, where nothing is said; each so many milliseconds, for 1 to 60,000; or never
+-- when a journal is synced: with each write, where nothing is said; each so many milliseconds, for 1 to 60,000; or
+-- never
 abbrev pub every_of : Text → Option Syncs
 every_of digits = option_map Every (number_between 1 60000 digits)
 

@@ -92,9 +92,10 @@ time of day that the settings name. What an operator sets stands in the same set
 
 Each address is listened at before a port is connected. At the end no further link is taken, the market's answers are
 awaited for a while, the link of each client and then of each port is closed once what lay there for it is written, and
-the audit of the day is printed. --journal and --sync are as gateway run has them. Orders that are open at the market, or that it hasn't answered, are named on standard
-error. The status is 0 where all orders agree, 1 as gateway run has it, 2 for settings that are refused, an address that
-can't be listened at, or a journal that is in use, over or damaged: then nothing was connected.";
+the audit of the day is printed. --journal and --sync are as gateway run has them. Orders that are open at the market,
+or that it hasn't answered, are named on standard error. The status is 0 where all orders agree, 1 as gateway run has
+it, 2 for settings that are refused, an address that can't be listened at, or a journal that is in use, over or damaged:
+then nothing was connected.";
 
 /// Of `gateway end`.
 pub(crate) const END: &str = "\

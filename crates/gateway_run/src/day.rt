@@ -157,8 +157,8 @@ fn is_same(read: &History, day: &History) -> bool
 /// Ends a day that was written ahead: writes its audit to `output`, and looks whether the journal's file, as it was
 /// read again, has the day.
 ///
-/// Answers the status that a program ends with which does so: 0 where it has and both accounts of each order agree; else
-/// 1, as `audit_day` has it, or with `gateway: journal: it doesn't have the day` on `faults`.
+/// Answers the status that a program ends with which does so: 0 where it has and both accounts of each order agree;
+/// else 1, as `audit_day` has it, or with `gateway: journal: it doesn't have the day` on `faults`.
 pub fn end_day<W: Write, F: Write>(
     alloc: Global,
     day: &Day,

@@ -70,8 +70,8 @@ impl DayJournal {
         }
     }
 
-    /// Of a day that stopped, behind the whole pages of its file; and how many bytes behind them are cut off: those of a
-    /// write that was cut short, of which nobody was told anything.
+    /// Of a day that stopped, behind the whole pages of its file; and how many bytes behind them are cut off: those of
+    /// a write that was cut short, of which nobody was told anything.
     ///
     /// `Over`, `Damaged` and `NoMemory` leave the file as it was.
     pub fn of_stopped(

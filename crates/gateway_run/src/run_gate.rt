@@ -1,5 +1,5 @@
-//! What is looked at before it goes to the desk: ticks that aren't due are left out, and it is told why a client's Logon
-//! isn't answered, and what a market says of a login.
+//! What is looked at before it goes to the desk: ticks that aren't due are left out, and it is told why a client's
+//! Logon isn't answered, and what a market says of a login.
 
 use crate::telling::Teller;
 use desk_gates::{DeskName, Gate, Shared};
@@ -18,8 +18,8 @@ use std::time::Clock;
 /// A gate through which a tick goes only where a session's table has a row for it just now (`Core::is_due`). Any other
 /// tick is given back: it would give its link nothing, and would stand in the day's history for ever.
 ///
-/// Where somebody tells, it is told why a link's first frame is no Logon that is answered (`Core::logon_fault`), and with
-/// which letter a market rejects a login.
+/// Where somebody tells, it is told why a link's first frame is no Logon that is answered (`Core::logon_fault`), and
+/// with which letter a market rejects a login.
 #[derive(Drop)]
 pub(crate) struct RunGate<'a, G, K: DeskName, R> {
     gate: G,

@@ -2,8 +2,8 @@
 //!
 //! Its clauses speak of the bytes that its calls were given and answered for. What they can't see, and is trusted: that
 //! `append` writes these bytes and `sync` has the system write them to the disk, which are one line each here; and that
-//! what the system answers is so. Where syncing is left for later, `sync` asks nothing of the disk: there a crash is one
-//! of the process alone, which all that the system was given outlives.
+//! what the system answers is so. Where syncing is left for later, `sync` asks nothing of the disk: there a crash is
+//! one of the process alone, which all that the system was given outlives.
 
 ghost use Rattle.std.specs.Prelude.{◌≡◌, ◌≤◌, List, ℕ, length};
 ghost use Rattle.host_log.specs.Left.{IsLeft};

@@ -10,8 +10,9 @@ use journal_file::read_file;
 use std::alloc::Global;
 use std::io::Write;
 
-/// Reads the file of a day that is over or goes on, be it that a gateway runs or was killed, and writes the audit of what
-/// its whole pages say to `output`, as `audit_file` does. How the file of a day that goes on ends is told on `faults`.
+/// Reads the file of a day that is over or goes on, be it that a gateway runs or was killed, and writes the audit of
+/// what its whole pages say to `output`, as `audit_file` does. How the file of a day that goes on ends is told on
+/// `faults`.
 ///
 /// Status 2 comes where the file is none; the others as `audit_file` has them.
 pub fn audit_so_far<W: Write, F: Write>(

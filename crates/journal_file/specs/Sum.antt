@@ -1,6 +1,6 @@
--- The sum of a page: FNV-1a of 64 bits, taken over words of eight bytes, the high byte first, the last one filled up with
--- zeros. It tells a torn write from a whole one; it is no seal. (The form is the gateway's own; FNV-1a: the authors' offset
--- basis and prime of 64 bits.)
+-- The sum of a page: FNV-1a of 64 bits, taken over words of eight bytes, the high byte first, the last one filled up
+-- with zeros. It tells a torn write from a whole one; it is no seal. (The form is the gateway's own; FNV-1a: the
+-- authors' offset basis and prime of 64 bits.)
 use Rattle.std.specs.Prelude.{ℕ, zero, suc, ◌*◌, ◌%◌, ◌^◌, List, [], ◌∷◌, length, drop, bit_xor}
 use Rattle.std.specs.Int.{w64, from_be_bytes}
 
@@ -8,8 +8,8 @@ use Rattle.std.specs.Int.{w64, from_be_bytes}
 abbrev pub mixed : ℕ → ℕ → ℕ
 mixed sum word = (bit_xor sum word * 1_099_511_628_211) % 2 ^ 64
 
--- Words one after another: a look takes eight bytes, or those that are left, as if zeros stood behind them. As many looks
--- as there are bytes are enough.
+-- Words one after another: a look takes eight bytes, or those that are left, as if zeros stood behind them. As many
+-- looks as there are bytes are enough.
 abbrev pub sum_by_looks : ℕ → ℕ → List ℕ → ℕ
 sum_by_looks zero sum bytes = sum
 sum_by_looks (suc looks) sum [] = sum

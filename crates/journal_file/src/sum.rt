@@ -4,8 +4,8 @@ ghost use Rattle.std.specs.Prelude.{◌≡◌, ◌≤◌, length, slice_index};
 ghost use Rattle.std.specs.Int.{w64, from_be_bytes};
 ghost use Rattle.journal_file.specs.Sum as spec;
 
-/// The sum of these bytes: FNV-1a of 64 bits over words of eight bytes, the high byte first, the last one filled up with
-/// zeros. It tells a torn write from a whole one, and is no seal against forgers. Takes no memory.
+/// The sum of these bytes: FNV-1a of 64 bits over words of eight bytes, the high byte first, the last one filled up
+/// with zeros. It tells a torn write from a whole one, and is no seal against forgers. Takes no memory.
 pub fn sum_of(bytes: &[u8]) -> u64
     ensures { result ≡ spec.sum_of bytes.now }
 {

@@ -13,8 +13,8 @@ use gate_journal::History;
 use std::io::Write;
 use text_lines::StreamFault;
 
-/// Writes a history to `output` as a day's file: each page behind its length and its sum, and the end; then the output is
-/// flushed. Takes no memory of its own.
+/// Writes a history to `output` as a day's file: each page behind its length and its sum, and the end; then the output
+/// is flushed. Takes no memory of its own.
 ///
 /// `Stream` where a write fails, or the output can't be flushed, and then a part of the file may have been written.
 pub fn write_day<W: Write>(history: &History, output: &mut W) -> Result<(), StreamFault>

@@ -17,7 +17,8 @@ use Rattle.order_examples.specs.Exchanges.{cancelled_across_a_replace, cancelled
 use Rattle.order_examples.specs.Exchanges.{filled_across_replace_and_cancel, cancel_at_the_market, order_is_cancelled}
 use Rattle.order_examples.specs.Exchanges.{accepted_with_a_replace_pending, dead_as_it_is_accepted, asked_twice}
 use Rattle.order_examples.specs.Exchanges.{four_unanswered, cancelled_while_down, ordered_on_a_faulted_port}
-use Rattle.order_examples.specs.SeveralReplaces.{all_fall_under_a_cancel, fall_answers_the_cancel, fall_beside_another_order}
+use Rattle.order_examples.specs.SeveralReplaces.{all_fall_under_a_cancel, fall_answers_the_cancel}
+use Rattle.order_examples.specs.SeveralReplaces.{fall_beside_another_order}
 use Rattle.order_examples.specs.SeveralReplaces.{two_replaces_and_a_cancel}
 
 -- the table and the list that the events of an exchange leave

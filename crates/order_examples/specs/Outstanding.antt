@@ -8,7 +8,8 @@ use Rattle.order_examples.specs.Transcript.{fixed_terms, heard_by_client, faulte
 use Rattle.order_examples.specs.Transcript.{rejected_message, canceled_message, cancel_reject_message}
 use Rattle.order_examples.specs.Exchanges.{only_entered, entered_and_accepted, four_unanswered, cancelled_while_down}
 use Rattle.order_examples.specs.Exchanges.{filled_while_cancel_pending, ordered_on_a_faulted_port, two_clients}
-use Rattle.order_examples.specs.SeveralReplaces.{fall_answers_the_cancel, fall_beside_another_order, four_replaces_and_a_cancel}
+use Rattle.order_examples.specs.SeveralReplaces.{fall_answers_the_cancel, fall_beside_another_order}
+use Rattle.order_examples.specs.SeveralReplaces.{four_replaces_and_a_cancel}
 use Rattle.order_examples.specs.SeveralReplaces.{four_replaces_done_in_order}
 
 -- by types and tokens, in the order in which it was asked

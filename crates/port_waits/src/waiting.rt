@@ -5,8 +5,8 @@ ghost use Rattle.port_waits.specs.Waits as spec;
 
 use status_board::{ClientRow, PortRow};
 
-/// How many orders at a port aren't closed: those of its clients, by their rows. Of each client in its place `ports` has
-/// the port that it is on; ports are numbered from 1.
+/// How many orders at a port aren't closed: those of its clients, by their rows. Of each client in its place `ports`
+/// has the port that it is on; ports are numbered from 1.
 pub fn orders_at(port: u16, ports: &[u16], clients: &[ClientRow]) -> usize
     ensures { result ≡ spec.orders_at port ports.now clients.now }
 {
