@@ -1,3 +1,5 @@
+pub mod Executed
+mod ExecutedExamples
 pub mod State
 pub mod Meets
 pub mod Turns

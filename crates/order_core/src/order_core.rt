@@ -103,6 +103,7 @@ impl<S: BuildHasher + Drop> OrderCore<S> {
     ghost use Rattle.order_core.specs.Meets.{MeetsClient, MeetsPayload};
     ghost use Rattle.order_core.specs.State.{IsAfterTurns, IsCoreClient, CoreHasRoom};
     ghost use Rattle.order_core.specs.State.{CoreKeeps, core_put_back, core_settled};
+    ghost use Rattle.order_core.specs.Executed.{executed_shares, executed_value};
     ghost use Rattle.order_core.specs.Turns.{OfCall, client_turn};
 
     /// Steps an application message of a client, whose port stands as given. The client is one of the terms'.
@@ -203,6 +204,28 @@ impl<S: BuildHasher + Drop> OrderCore<S> {
             → IsAfterTurns terms before self.now → result ≡ open_orders (issued client before) }
     {
         self.ledger.open_count(client)
+    }
+
+    /// What was executed of all of a client's orders, in shares, as its reports have it: a trade that was broken isn't
+    /// among it. Takes no memory, and no time that grows with orders.
+    ///
+    /// Source: FIX 4.4 Volume 4, "Execution Report" (CumQty); Volume 6, ExecType (150), H Trade Cancel.
+    pub fn executed_shares(&self, client: u16) -> u128
+        ensures { (terms : List Terms) (before : OrderHistory) → NumbersLeft before
+            → IsAfterTurns terms before self.now → result ≡ executed_shares (issued client before) }
+    {
+        self.ledger.executed_shares(client)
+    }
+
+    /// What those shares were traded for, in 1/10,000: shares times price of each trade that stands, in sum. Takes no
+    /// memory, and no time that grows with orders.
+    ///
+    /// Source: FIX 4.4 Volume 4, "Execution Report" (LastQty, LastPx); Volume 6, ExecType (150), H Trade Cancel.
+    pub fn executed_value(&self, client: u16) -> u128
+        ensures { (terms : List Terms) (before : OrderHistory) → NumbersLeft before
+            → IsAfterTurns terms before self.now → result ≡ executed_value (issued client before) }
+    {
+        self.ledger.executed_value(client)
     }
 
     /// From now on the order level is put back to how it is now: to be called before each step of whatever it is part

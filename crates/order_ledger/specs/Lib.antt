@@ -6,6 +6,7 @@ pub mod Meets
 pub use Rattle.fix_types.specs.Application
 pub use Rattle.new_orders.specs.order_law.History
 pub use Rattle.new_orders.specs.order_law.Told
+pub use Rattle.new_orders.specs.order_table.Sums
 pub use Rattle.order_machine.specs.Machine
 pub use Rattle.order_machine.specs.OrderRecord
 pub use Rattle.order_machine.specs.Table

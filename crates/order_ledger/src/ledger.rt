@@ -129,6 +129,7 @@ impl<S: BuildHasher + Drop> OrderLedger<S> {
     ghost use Rattle.std.specs.Prelude.{option_map};
     ghost use Rattle.order_machine.specs.OrderRecord.{OrderRecord};
     ghost use Rattle.order_machine.specs.Table.{open_count, record_by_token};
+    ghost use Rattle.new_orders.specs.order_table.Sums.{executed_sum, value_sum};
     ghost use Rattle.to_market.specs.PortsSeen.{port_seen};
     ghost use Rattle.to_market.specs.TermsSeen.{terms_seen};
     ghost use Rattle.order_ledger.specs.Meets.{MeetsMessage};
@@ -158,6 +159,20 @@ impl<S: BuildHasher + Drop> OrderLedger<S> {
         ensures { result ≡ open_count self.now.now.orders client }
     {
         self.table.open_count(client)
+    }
+
+    /// CumQty (14) of a client's orders in sum, in shares. Takes no memory.
+    pub fn executed_shares(&self, client: u16) -> u128
+        ensures { result ≡ executed_sum self.now.now.orders client }
+    {
+        self.table.executed_shares(client)
+    }
+
+    /// Shares times price of the trades of a client's orders that stand, in sum, in 1/10,000. Takes no memory.
+    pub fn executed_value(&self, client: u16) -> u128
+        ensures { result ≡ value_sum self.now.now.orders client }
+    {
+        self.table.executed_value(client)
     }
 
     /// Steps an application message of a client, whose port stands as given. The client is one of the terms'.

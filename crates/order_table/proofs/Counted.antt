@@ -16,24 +16,20 @@ use Rattle.undo_orders.specs.Changes.{changed_by, replaced_as}
 use Rattle.undo_orders.specs.orders.declared.change.Change.{Change}
 use Rattle.undo_orders.specs.orders.declared.change.Change.TheVariants as changes
 use Rattle.hint_index.specs.Newest.{IsNewest}
-use Rattle.order_table.specs.Held.{is_counted}
+use Rattle.order_table.specs.Held.{is_counted, tokens_had}
 
 within : (m n : ℕ) → m ≤ n → nat_le m n ≡ true
 within m n few = grind (arith, nat_tests)
 
--- the tokens that it has had, and those of its pending replaces
-abbrev pub had : OrderRecord → ℕ
-had o = length o.tokens + length o.replaces
-
 abbrev count_of : List GivenToken → OrderRecord → ℕ
 count_of ts o = count_by (is_replacement_of o.new.order) ts
 
-pub counted-few : (ts : List GivenToken) (o : OrderRecord) → is_counted ts o ≡ true → had o ≤ 1 + count_of ts o
-counted-few ts o h = leb-true (had o) (1 + count_of ts o) h
+pub counted-few : (ts : List GivenToken) (o : OrderRecord) → is_counted ts o ≡ true → tokens_had o ≤ 1 + count_of ts o
+counted-few ts o h = leb-true (tokens_had o) (1 + count_of ts o) h
 
 -- ---- lists
 
-both : (a b : Bool) → a ≡ true → b ≡ true → (a && b) ≡ true
+pub both : (a b : Bool) → a ≡ true → b ≡ true → (a && b) ≡ true
 both a b x y = rw (x, y) refl
 
 pub all-at : {A : Type 0} (test : A → Bool) (xs : List A) (i : ℕ) (x : A) → list_all test xs ≡ true
@@ -43,7 +39,7 @@ all-at test (y ∷ ys) zero x all at_i = let same : y ≡ x = cc in ap test (sym
     ∙ (and_parts (test y) (list_all test ys) all).0
 all-at test (y ∷ ys) (suc i) x all at_i = all-at test ys i x (and_parts (test y) (list_all test ys) all).1 at_i
 
-all-set : {A : Type 0} (test : A → Bool) (xs : List A) (i : ℕ) (x : A) → list_all test xs ≡ true → test x ≡ true
+pub all-set : {A : Type 0} (test : A → Bool) (xs : List A) (i : ℕ) (x : A) → list_all test xs ≡ true → test x ≡ true
     → list_all test (slice_set xs i x) ≡ true
 all-set test [] i x all passes = refl
 all-set test (y ∷ ys) zero x all passes =
@@ -52,12 +48,18 @@ all-set test (y ∷ ys) (suc i) x all passes =
     both (test y) (list_all test (slice_set ys i x)) (and_parts (test y) (list_all test ys) all).0
     (all-set test ys i x (and_parts (test y) (list_all test ys) all).1 passes)
 
+pub all-push : {A : Type 0} (test : A → Bool) (xs : List A) (x : A) → list_all test xs ≡ true → test x ≡ true
+    → list_all test (xs ++ x ∷ []) ≡ true
+all-push test xs x all passes =
+    list_all-append test xs (x ∷ []) ∙ both (list_all test xs) (list_all test (x ∷ [])) all
+    (both (test x) true passes refl)
+
 length-push : {A : Type 0} (xs : List A) (x : A) → length (xs ++ x ∷ []) ≡ length xs + 1
 length-push [] x = refl
 length-push (y ∷ ys) x = let rest = length-push ys x in omega (arith, rest)
 
 -- an order with a replace more pending
-pub one-more : (o : OrderRecord) (q : Entry) → had (at o (o.replaces ++ q ∷ []) o.cancel) ≤ had o + 1
+pub one-more : (o : OrderRecord) (q : Entry) → tokens_had (at o (o.replaces ++ q ∷ []) o.cancel) ≤ tokens_had o + 1
 one-more o q = let longer = length-push o.replaces q in omega (arith, longer)
 
 -- ---- a further token
@@ -73,7 +75,7 @@ more-tokens ts t o = let pushed = count-push (is_replacement_of o.new.order) ts 
 still-counted : (ts : List GivenToken) (t : GivenToken) (o : OrderRecord) → is_counted ts o ≡ true
     → is_counted (ts ++ t ∷ []) o ≡ true
 still-counted ts t o h = let few = counted-few ts o h in let more = more-tokens ts t o in
-    within (had o) (1 + count_of (ts ++ t ∷ []) o) (omega (arith, few, more))
+    within (tokens_had o) (1 + count_of (ts ++ t ∷ []) o) (omega (arith, few, more))
 
 all-more : (ts : List GivenToken) (t : GivenToken) (os : List OrderRecord) → list_all (is_counted ts) os ≡ true
     → list_all (is_counted (ts ++ t ∷ [])) os ≡ true
@@ -87,26 +89,27 @@ all-more ts t (o ∷ os) all =
 
 -- one order more, and its token
 pub added : (ts : List GivenToken) (t : GivenToken) (os : List OrderRecord) (o : OrderRecord)
-    → list_all (is_counted ts) os ≡ true → had o ≤ 1 → list_all (is_counted (ts ++ t ∷ [])) (os ++ o ∷ []) ≡ true
+    → list_all (is_counted ts) os ≡ true → tokens_had o ≤ 1 → list_all (is_counted (ts ++ t ∷ [])) (os ++ o ∷ []) ≡ true
 added ts t os o all few =
     list_all-append (is_counted (ts ++ t ∷ [])) os (o ∷ [])
     ∙ both (list_all (is_counted (ts ++ t ∷ [])) os) (list_all (is_counted (ts ++ t ∷ [])) (o ∷ []))
     (all-more ts t os all)
-    (both (is_counted (ts ++ t ∷ []) o) true (within (had o) (1 + count_of (ts ++ t ∷ []) o) (omega (arith, few))) refl)
+    (both (is_counted (ts ++ t ∷ []) o) true (within (tokens_had o) (1 + count_of (ts ++ t ∷ []) o)
+    (omega (arith, few))) refl)
 
 -- an order that has had no more tokens than the one in whose place it stands
 pub kept : (ts : List GivenToken) (os : List OrderRecord) (i : ℕ) (o p : OrderRecord)
-    → list_all (is_counted ts) os ≡ true → slice_get os i ≡ Some o → p.new ≡ o.new → had p ≤ had o
+    → list_all (is_counted ts) os ≡ true → slice_get os i ≡ Some o → p.new ≡ o.new → tokens_had p ≤ tokens_had o
     → list_all (is_counted ts) (slice_set os i p) ≡ true
 kept ts os i o p all at_i same few =
     let was = counted-few ts o (all-at (is_counted ts) os i o all at_i) in
     let count : count_of ts p ≡ count_of ts o = ap (λ (e : Entry). count_by (is_replacement_of e.order) ts) same in
-    all-set (is_counted ts) os i p all (within (had p) (1 + count_of ts p) (omega (arith, was, few, count)))
+    all-set (is_counted ts) os i p all (within (tokens_had p) (1 + count_of ts p) (omega (arith, was, few, count)))
 
 -- an order whose replace was given a token
 pub replacing : (ts : List GivenToken) (t : GivenToken) (os : List OrderRecord) (i : ℕ) (o p : OrderRecord)
     → list_all (is_counted ts) os ≡ true → slice_get os i ≡ Some o → p.new ≡ o.new
-    → is_replacement_of o.new.order t ≡ true → had p ≤ had o + 1
+    → is_replacement_of o.new.order t ≡ true → tokens_had p ≤ tokens_had o + 1
     → list_all (is_counted (ts ++ t ∷ [])) (slice_set os i p) ≡ true
 replacing ts t os i o p all at_i same own few =
     let was = counted-few ts o (all-at (is_counted ts) os i o all at_i) in
@@ -115,11 +118,11 @@ replacing ts t os i o p all at_i same own few =
     let count : count_of (ts ++ t ∷ []) p ≡ count_of (ts ++ t ∷ []) o =
     ap (λ (e : Entry). count_by (is_replacement_of e.order) (ts ++ t ∷ [])) same in
     all-set (is_counted (ts ++ t ∷ [])) os i p (all-more ts t os all)
-    (within (had p) (1 + count_of (ts ++ t ∷ []) p) (omega (arith, was, few, count, pushed)))
+    (within (tokens_had p) (1 + count_of (ts ++ t ∷ []) p) (omega (arith, was, few, count, pushed)))
 
 -- ---- what a change makes of it
 
-over-few : (b : Bool) (o : OrderRecord) → had (over_if b o) ≤ had o
+over-few : (b : Bool) (o : OrderRecord) → tokens_had (over_if b o) ≤ tokens_had o
 over-few true o = omega arith
 over-few false o = omega arith
 
@@ -128,7 +131,7 @@ over-new true o = refl
 over-new false o = refl
 
 replaced-few : (shares price : ℕ) (is_dead : Bool) (o : OrderRecord) (qs : List Entry) → o.replaces ≡ qs
-    → had (replaced_as shares price is_dead o qs) ≤ had o
+    → tokens_had (replaced_as shares price is_dead o qs) ≤ tokens_had o
 replaced-few shares price is_dead o [] e = omega arith
 replaced-few shares price is_dead o (q ∷ qs) e =
     let over = over-few is_dead (at (put_in_book shares price (renamed (token_of q) q o)) qs
@@ -142,17 +145,18 @@ replaced-new shares price is_dead o [] = refl
 replaced-new shares price true o (q ∷ qs) = refl
 replaced-new shares price false o (q ∷ qs) = refl
 
-pub change-few : (change : Change) (o : OrderRecord) → had (changed_by change o) ≤ had o
+pub change-few : (change : Change) (o : OrderRecord) → tokens_had (changed_by change o) ≤ tokens_had o
 change-few (changes.Opened shares price is_dead) o = over-few is_dead (put_in_book shares price o)
 change-few (changes.Replaced shares price is_dead) o = replaced-few shares price is_dead o o.replaces refl
 change-few (changes.Canceled shares) o = by_rest (o.unfilled - shares == 0)
   where
-    by_rest : (b : Bool) → had (if b then unasked (gone o) else reduced shares o) ≤ had o
+    by_rest : (b : Bool) → tokens_had (if b then unasked (gone o) else reduced shares o) ≤ tokens_had o
     by_rest true = omega arith
     by_rest false = omega arith
 change-few (changes.Traded t) o = by_rest (o.unfilled - t.trade.shares == 0)
   where
-    by_rest : (b : Bool) → had (if b then unasked (filled t.number t.trade o) else with_trade t.number t.trade o) ≤ had
+    by_rest : (b : Bool) → tokens_had (if b then unasked (filled t.number t.trade o) else with_trade t.number t.trade o)
+        ≤ tokens_had
         o
     by_rest true = omega arith
     by_rest false = omega arith

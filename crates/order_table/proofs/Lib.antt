@@ -4,6 +4,7 @@ mod Rooms
 mod Named
 mod Changing
 mod Standing
-mod StillOpen
+mod Summed
+mod Keeping
 mod Replaces
 pub use Rattle.hint_index.proofs as hint_index

@@ -6,6 +6,7 @@ use Rattle.std.proofs.lemmas.List.{reverse-append}
 use Rattle.order_machine.specs.OrderRecord.{OrderRecord}
 use Rattle.order_machine.specs.Table.{GivenToken, has_number, put}
 use Rattle.hint_index.specs.Newest.{IsNewest}
+use Rattle.order_table.specs.declared.sums.Sums.{Sums}
 use Rattle.order_table.specs.Held.{Held, IsCounted, changed}
 use Rattle.order_table.proofs.Newest.{change-newest}
 
@@ -20,11 +21,12 @@ by-result (Ok a) ok err f g = f ok
 by-result (Err e) ok err f g = g err
 
 -- lists that are the same
-pub same-counted : {ts us : List GivenToken} {cs ds : List ℕ} {os ps : List OrderRecord} → us ≡ ts → ds ≡ cs → ps ≡ os
+pub same-counted : {ts us : List GivenToken} {cs ds : List Sums} {os ps : List OrderRecord} → us ≡ ts → ds ≡ cs
+    → ps ≡ os
     → IsCounted ts cs os → IsCounted us ds ps
 same-counted {ts} {us} {cs} {ds} {os} {ps} tokens counts orders are =
     subst (λ (xs : List OrderRecord). IsCounted us ds xs) (sym orders)
-    (subst (λ (ns : List ℕ). IsCounted us ns os) (sym counts)
+    (subst (λ (ns : List Sums). IsCounted us ns os) (sym counts)
     (subst (λ (xs : List GivenToken). IsCounted xs cs os) (sym tokens) are))
 
 -- the table's value, by its lists with the oldest first

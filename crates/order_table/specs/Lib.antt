@@ -4,6 +4,7 @@ pub mod KeyLaws
 pub mod Names
 pub mod Replaces
 pub mod Rooms
+pub mod Sums
 pub mod TokenKeys
 pub use Rattle.undo_orders.specs.orders.order_law.Chain
 pub use Rattle.undo_orders.specs.orders.order_law.Life

@@ -3,9 +3,10 @@
 //! It knows nothing of messages from the market and of reports. Contracts see it as `order_machine`'s table.
 #![tactic(auto)]
 
+mod client_sums;
 mod keys;
-mod open_counts;
 mod order_list;
+mod sums;
 mod table;
 mod token_key;
 mod token_list;

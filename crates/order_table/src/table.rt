@@ -1,12 +1,13 @@
 //! The list of orders, and the list of tokens that were given.
 
-ghost use Rattle.std.specs.Prelude.{◌≡◌, ◌<◌, true, not, decimal, length, nat_lt};
+ghost use Rattle.std.specs.Prelude.{◌≡◌, ◌<◌, true, decimal, length, nat_lt};
 ghost use Rattle.std.specs.List.{count_by};
 ghost use Rattle.undo_orders.specs.orders.order_law.Life.{is_closed};
 ghost use Rattle.order_table.specs.Held.{IsCounted};
 
-use crate::open_counts::OpenCounts;
+use crate::client_sums::ClientSums;
 use crate::order_list::{OrderList, client_of};
+use crate::sums::Sums;
 use crate::token_list::TokenList;
 use std::alloc::{AllocError, Global};
 use std::hash::{BuildHasher, BuildHasherDefault, FoldHasher};
@@ -48,10 +49,10 @@ impl Model for GivenToken {
 pub struct Table<S: BuildHasher + Drop = BuildHasherDefault<FoldHasher>> {
     orders: OrderList<S>,
     tokens: TokenList,
-    /// How many orders of each client aren't closed.
-    open_counts: OpenCounts,
-    ghost counted: { IsCounted tokens.now open_counts.now orders.now },
-    ghost settled_counted: { IsCounted tokens.settled open_counts.settled orders.settled },
+    /// What the orders of each client come to.
+    sums: ClientSums,
+    ghost counted: { IsCounted tokens.now sums.now orders.now },
+    ghost settled_counted: { IsCounted tokens.settled sums.settled orders.settled },
 }
 
 // Not derived: then each way out drops it in one call (docs/DECISIONS.md, "Drops").
@@ -60,7 +61,7 @@ impl<S: BuildHasher + Drop> Drop for Table<S> {
         let Table {
             orders: _,
             tokens: _,
-            open_counts: _,
+            sums: _,
         } = self;
     }
 }
@@ -90,7 +91,7 @@ impl Table {
         Table {
             orders: OrderList::new(alloc),
             tokens: TokenList::new(alloc),
-            open_counts: OpenCounts::new(alloc),
+            sums: ClientSums::new(alloc),
         }
     }
 }
@@ -105,6 +106,7 @@ impl<S: BuildHasher + Drop> Table<S> {
     ghost use Rattle.order_machine.specs.Table.{is_replacement_of, open_count, put};
     ghost use Rattle.undo_orders.specs.Changes.{Fits, changed_by};
     ghost use Rattle.order_table.specs.Held.{changed, found, found_by_id, put_back, settled_now, with_number};
+    ghost use Rattle.order_table.specs.Sums.{executed_sum, value_sum};
     ghost use Rattle.undo_orders.specs.Seen.{cancel_seen, replace_seen};
 
     /// No orders and no tokens, with a hasher of ClOrdIDs. Takes no memory.
@@ -116,7 +118,7 @@ impl<S: BuildHasher + Drop> Table<S> {
         Table {
             orders: OrderList::with_hasher(alloc, hasher),
             tokens: TokenList::new(alloc),
-            open_counts: OpenCounts::new(alloc),
+            sums: ClientSums::new(alloc),
         }
     }
 
@@ -131,13 +133,13 @@ impl<S: BuildHasher + Drop> Table<S> {
         ensures err { OnErr result (self.new ≡ self.old) }
     {
         let client = client_of(&order);
-        let is_open = is_open(&order);
-        self.open_counts.make_room(client)?;
+        let becomes = Sums::of(&order);
+        self.sums.make_room(client)?;
         self.tokens.reserve_push()?;
         self.orders.reserve_push()?;
         self.tokens.push(given);
         self.orders.push(order);
-        self.open_counts.count_in(client, is_open);
+        self.sums.exchange(client, Sums::none(), becomes);
         Ok(())
     }
 
@@ -152,7 +154,21 @@ impl<S: BuildHasher + Drop> Table<S> {
     pub fn open_count(&self, client: u16) -> usize
         ensures { result ≡ open_count self.now.orders client }
     {
-        self.open_counts.of(client)
+        self.sums.of(client).still_open
+    }
+
+    /// CumQty (14) of a client's orders in sum, in shares. No order is looked at.
+    pub fn executed_shares(&self, client: u16) -> u128
+        ensures { result ≡ executed_sum self.now.orders client }
+    {
+        self.sums.of(client).executed
+    }
+
+    /// Shares times price of the trades of a client's orders that stand, in sum, in 1/10,000. No order is looked at.
+    pub fn executed_value(&self, client: u16) -> u128
+        ensures { result ≡ value_sum self.now.orders client }
+    {
+        self.sums.of(client).value
     }
 
     /// The order that a token of a port leads to.
@@ -217,13 +233,15 @@ impl<S: BuildHasher + Drop> Table<S> {
         match self.orders.place_of(order_id) {
             None => Ok(false),
             Some(place) => {
-                let was = self.orders.item_at(place);
-                let client = client_of(was);
-                let was_open = is_open(was);
-                self.open_counts.reserve()?;
+                let order = self.orders.item_at(place);
+                let client = client_of(order);
+                let was = Sums::of(order);
+                self.sums.reserve()?;
                 self.orders.apply(alloc, place, change)?;
-                let closed = is_closed(self.orders.item_at(place));
-                self.open_counts.count_off(client, was_open && closed);
+                let changed = self.orders.item_at(place);
+                let closed = is_closed(changed);
+                let becomes = Sums::of(changed);
+                self.sums.exchange(client, was, becomes);
                 Ok(closed)
             }
         }
@@ -291,7 +309,7 @@ impl<S: BuildHasher + Drop> Table<S> {
     {
         self.orders.settle();
         self.tokens.settle();
-        self.open_counts.settle();
+        self.sums.settle();
     }
 
     /// Puts the table back to how it was settled. Takes no memory.
@@ -300,7 +318,7 @@ impl<S: BuildHasher + Drop> Table<S> {
     {
         self.orders.undo();
         self.tokens.undo();
-        self.open_counts.undo();
+        self.sums.undo();
     }
 }
 
@@ -316,11 +334,4 @@ fn is_closed(order: &Order) -> bool
     ensures { result ≡ is_closed order.now.stage }
 {
     order.progress.stage == Stage::Closed
-}
-
-/// Whether an order isn't closed.
-fn is_open(order: &Order) -> bool
-    ensures { result ≡ not (is_closed order.now.stage) }
-{
-    order.progress.stage != Stage::Closed
 }

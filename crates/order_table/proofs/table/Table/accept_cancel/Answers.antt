@@ -9,10 +9,10 @@ use Rattle.hint_index.specs.Newest.{IsNewest}
 use Rattle.order_table.specs.Held.{Held, changed, with_number}
 use Rattle.undo_orders.specs.Seen.{cancel_of, cancel_seen}
 use Rattle.order_table.proofs.Changing.{cancel-as}
-use Rattle.order_table.proofs.Counted.{kept, own-number}
+use Rattle.order_table.proofs.Counted.{own-number}
 use Rattle.order_table.proofs.Named.{item-at}
 use Rattle.order_table.proofs.Standing.{by-result, changed-value, on-err, same-counted, same-value}
-use Rattle.order_table.proofs.StillOpen.{as-open}
+use Rattle.order_table.proofs.Keeping.{counted-asked}
 use Rattle.order_table.proofs.table.Table.accept_cancel.Goals as goal
 
 pub invariant_of-self-inside : goal.invariant_of-self-inside
@@ -23,12 +23,9 @@ invariant_of-self-inside g c =
     let was = there.0 in
     let now : OrderRecord = at was was.replaces (Some (cancel_of was c.args.cancelling)) in (
       by-result c.accept_cancel.result c.accept_cancel.ensures.now c.accept_cancel.ensures.err
-          (λ written. same-counted refl refl (written was there.1) (record {
-            had = kept c.self.inside.tokens.now os c.in-Some.place was now c.self.inside.counted.had there.1 refl
-                (omega arith);
-            by_client = as-open c.self.inside.open_counts.now os c.in-Some.place was now c.self.inside.counted.by_client
-                there.1 refl refl;
-          }))
+          (λ written. same-counted refl refl (written was there.1)
+          (counted-asked c.self.inside.tokens.now c.self.inside.sums.now os c.in-Some.place was now
+          c.self.inside.counted there.1 refl refl refl (omega arith)))
           (λ same. same-counted refl refl same c.self.inside.counted),
       (same-counted refl refl c.accept_cancel.ensures.settled c.self.inside.settled_counted, tt),
     )

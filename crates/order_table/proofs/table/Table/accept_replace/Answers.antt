@@ -1,5 +1,5 @@
-use Rattle.std.proofs.Common.{rules, ◌≡◌, ℕ, List, [], ◌∷◌, ◌++◌, decimal, refl, reverse, sym, ap, ◌∙◌, arith, ◌<◌}
-use Rattle.std.proofs.Common.{length, subst, ltb-false, ltb-true}
+use Rattle.std.proofs.Common.{rules, ◌≡◌, ℕ, List, [], ◌∷◌, ◌++◌, decimal, refl, reverse, sym, ap, ◌∙◌, arith, ◌<◌, ◌^◌}
+use Rattle.std.proofs.Common.{length, subst, ltb-true}
 use Rattle.std.specs.Prelude.{Some}
 use Rattle.std.proofs.lemmas.Result.{IfOk-from_err}
 use Rattle.std.specs.List.{find, count_by}
@@ -12,10 +12,10 @@ use Rattle.order_table.specs.Held.{Held, is_counted, with_number}
 use Rattle.undo_orders.specs.Seen.{replace_of, replace_seen}
 use Rattle.order_table.proofs.Changing.{replace-as}
 use Rattle.order_table.proofs.Newest.{count-reverse}
-use Rattle.order_table.proofs.Counted.{all-at, counted-few, one-more, own-number, own-token, replacing}
+use Rattle.order_table.proofs.Counted.{all-at, counted-few, one-more, own-number, own-token}
 use Rattle.order_table.proofs.Named.{item-at, same-item}
 use Rattle.order_table.proofs.Standing.{on-err, replaced-value, same-counted, same-value}
-use Rattle.order_table.proofs.StillOpen.{as-open}
+use Rattle.order_table.proofs.Keeping.{counted-replacing}
 use Rattle.order_table.proofs.table.Table.accept_replace.Goals as goal
 
 pub accept_replace-requires-clause-room : goal.accept_replace-requires-clause-room
@@ -49,16 +49,13 @@ invariant_of-self-inside-2 g c =
     let now : OrderRecord = at was (was.replaces ++ replace_of was c.args.replacing ∷ []) was.cancel in
     let pushed : c.push.new.self.now ≡ c.self.inside.tokens.now ++ c.args.given ∷ [] = c.push.ensures.now
     ∙ ap (λ (ts : List GivenToken). ts ++ c.args.given ∷ []) c.in_ok-reserve_push.ensures.now in (
-      same-counted pushed refl (c.in_ok-accept_replace.ensures.now was there.1) (record {
-        had =
-            replacing c.self.inside.tokens.now c.args.given os c.in-Some.place was now c.self.inside.counted.had there.1
-            refl
-            (own-token (decimal c.args.order_id) c.args.given was
-            (own-number (decimal c.args.order_id) os c.in-Some.place was newest there.1) c.requires.of_order
-            c.requires.is_replacement) (one-more was (replace_of was c.args.replacing));
-        by_client = as-open c.self.inside.open_counts.now os c.in-Some.place was now c.self.inside.counted.by_client
-            there.1 refl refl;
-      }),
+      same-counted pushed refl (c.in_ok-accept_replace.ensures.now was there.1)
+          (counted-replacing c.self.inside.tokens.now c.self.inside.sums.now os c.in-Some.place was now
+          c.self.inside.counted there.1 refl refl refl c.args.given
+          (own-token (decimal c.args.order_id) c.args.given was
+          (own-number (decimal c.args.order_id) os c.in-Some.place was newest there.1) c.requires.of_order
+          c.requires.is_replacement) (one-more was (replace_of was c.args.replacing))
+          (subst (λ (ts : List GivenToken). length ts < 2 ^ 64) pushed c.push.ensures.few)),
       (
         same-counted (c.push.ensures.settled ∙ c.in_ok-reserve_push.ensures.settled) refl
             c.accept_replace.ensures.settled c.self.inside.settled_counted,
