@@ -1,5 +1,6 @@
 pub mod Kept
 pub mod Marks
+pub mod Chaining
 pub mod Keeping
 pub mod KeptInTurns
 pub use Rattle.order_law.specs.ouch_codec.Inbound

@@ -10,6 +10,10 @@
 #![tactic(auto)]
 
 mod answering;
+mod asked;
+mod chains;
 mod messages;
+mod places;
+mod replies;
 
 pub use messages::AskedMessages;
