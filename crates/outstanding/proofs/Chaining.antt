@@ -1,11 +1,13 @@
--- Chains lead to each message that isn't settled after one more, one less, and a change of replies, and where what is
--- settled is left out.
+-- Chains lead to each message that isn't settled after one more, one less, and other answers, and where what is settled
+-- is
+-- left out.
 use Rattle.std.proofs.Common.{◌≡◌, ◌≢◌, ℕ, zero, suc, ◌+◌, ◌<◌, ◌≤◌, ◌^◌, true, List, [], ◌∷◌, ◌++◌, length}
 use Rattle.std.proofs.Common.{◌-◌, get_or, set, slice_get, refl, sym, ap, ◌∙◌, subst, ◌⊎◌, inl, inr, arith}
 use Rattle.std.specs.Prelude.{Option, Some, None}
 use Rattle.std.proofs.lemmas.Bool.{cases_eq, cases_lt}
 use Rattle.std.proofs.lemmas.Option.{slice_get_within}
-use Rattle.std.proofs.lemmas.List.{get_or-set_other, get_or-set_same, get_or_append_left, get_or_push, length-set, length_push}
+use Rattle.std.proofs.lemmas.List.{get_or-set_other, get_or-set_same, get_or_append_left, get_or_push, length-set}
+use Rattle.std.proofs.lemmas.List.{length_push}
 use Rattle.outstanding.specs.declared.asked.AskedMessage.{AskedMessage}
 use Rattle.outstanding.specs.Chaining.{IsChained, Reaches, bucket}
 use Rattle.outstanding.specs.Marks.{is_settled}
@@ -70,11 +72,9 @@ reaches-shorter n xs ys b r k inside reach = record {
 
 -- ---- one more
 
-module _ (n : ℕ) (heads older : List ℕ) (xs : List AskedMessage) (x : AskedMessage) (chained : IsChained n heads older xs)
+module _ (n : ℕ) (heads older : List ℕ) (xs : List AskedMessage) (x : AskedMessage)
+    (chained : IsChained n heads older xs)
     (some : 0 < n) (small : x.order_id < 2 ^ 64) (inside : bucket n x.order_id < n) where
-  own : ℕ
-  own = bucket n x.order_id
-
   first-pushed : (b : ℕ) → b < n
       → Reaches n (xs ++ x ∷ []) b (get_or (set heads (bucket n x.order_id) (length xs + 1)) b 0)
       (length (xs ++ x ∷ []))
@@ -102,14 +102,16 @@ module _ (n : ℕ) (heads older : List ℕ) (xs : List AskedMessage) (x : AskedM
           (sym (get_or-set_other heads (bucket n x.order_id) b (length xs + 1) 0 other))
           (record {
             below = omega (arith, length_push xs x, (chained.begins b there).below);
-            own = (reaches-longer n xs (x ∷ []) b (get_or heads b 0) (length xs) (omega arith) (chained.begins b there)).own;
+            own = (reaches-longer n xs (x ∷ []) b (get_or heads b 0) (length xs) (omega arith)
+                (chained.begins b there)).own;
             past = λ i y from to at o. by_place i y from o (get-pushed xs x i y at);
           })
         where
           by_place : (i : ℕ) (y : AskedMessage) → get_or heads b 0 ≤ i → bucket n y.order_id ≡ b
               → ((i < length xs) × (slice_get xs i ≡ Some y)) ⊎ ((i ≡ length xs) × (x ≡ y)) → is_settled y ≡ true
           by_place i y from o (inl at) = (chained.begins b there).past i y from at.0 at.1 o
-          by_place i y from o (inr at) = absurd (other (sym o ∙ ap (λ (z : AskedMessage). bucket n z.order_id) (sym at.1)))
+          by_place i y from o (inr at) = absurd (other
+              (sym o ∙ ap (λ (z : AskedMessage). bucket n z.order_id) (sym at.1)))
 
   next-pushed : (inside_heads : length heads ≡ n) (j : ℕ) (y : AskedMessage) → slice_get (xs ++ x ∷ []) j ≡ Some y
       → Reaches n (xs ++ x ∷ []) (bucket n y.order_id)
@@ -130,7 +132,8 @@ module _ (n : ℕ) (heads older : List ℕ) (xs : List AskedMessage) (x : AskedM
           (sym (get_or_push older (get_or heads (bucket n x.order_id) 0) 0 j (chained.long ∙ sym new.0)))
           (subst (λ (k : ℕ). Reaches n (xs ++ x ∷ []) (bucket n y.order_id) (get_or heads (bucket n x.order_id) 0) k)
           (sym new.0)
-          (subst (λ (z : AskedMessage). Reaches n (xs ++ x ∷ []) (bucket n z.order_id) (get_or heads (bucket n x.order_id) 0)
+          (subst (λ (z : AskedMessage). Reaches n (xs ++ x ∷ []) (bucket n z.order_id)
+          (get_or heads (bucket n x.order_id) 0)
           (length xs)) new.1
           (reaches-longer n xs (x ∷ []) (bucket n x.order_id) (get_or heads (bucket n x.order_id) 0) (length xs)
           (omega arith) (chained.begins (bucket n x.order_id) inside))))
@@ -250,7 +253,8 @@ chained-begins n heads older xs chained b r inside reach = record {
     by_bucket : (c : ℕ) → c < n → (c ≡ b) ⊎ (c ≢ b) → Reaches n xs c (get_or (set heads b r) c 0) (length xs)
     by_bucket c there (inl same) =
         subst (λ (d : ℕ). Reaches n xs d (get_or (set heads b r) d 0) (length xs)) (sym same)
-        (subst (λ (s : ℕ). Reaches n xs b s (length xs)) (sym (get_or-set_same heads b r 0 (omega (arith, chained.wide))))
+        (subst (λ (s : ℕ). Reaches n xs b s (length xs))
+        (sym (get_or-set_same heads b r 0 (omega (arith, chained.wide))))
         reach)
     by_bucket c there (inr other) = subst (λ (s : ℕ). Reaches n xs c s (length xs))
         (sym (get_or-set_other heads b c r 0 other)) (chained.begins c there)
@@ -278,35 +282,36 @@ chained-goes_on n heads older xs chained p r x at reach = record {
     by_place j y it (inr other) = subst (λ (s : ℕ). Reaches n xs (bucket n y.order_id) s j)
         (sym (get_or-set_other older p j r 0 other)) (chained.goes_on j y it)
 
--- ---- other replies
+-- ---- other answers
 
 -- Each message is of the same order, and is settled if it was.
-pub record IsReplied (xs ys : List AskedMessage) : Type 0 where
+pub record KeepsChains (xs ys : List AskedMessage) : Type 0 where
   pub long : length ys ≡ length xs
   pub each : (i : ℕ) (y : AskedMessage) → slice_get ys i ≡ Some y
-      → (x : AskedMessage) × (slice_get xs i ≡ Some x) × (y.order_id ≡ x.order_id) × (is_settled x ≡ true → is_settled y ≡ true)
+      → (x : AskedMessage) × (slice_get xs i ≡ Some x) × (y.order_id ≡ x.order_id)
+      × (is_settled x ≡ true → is_settled y ≡ true)
 
-reaches-replied : (n : ℕ) (xs ys : List AskedMessage) → IsReplied xs ys → (b r k : ℕ) → Reaches n xs b r k
+reaches-kept : (n : ℕ) (xs ys : List AskedMessage) → KeepsChains xs ys → (b r k : ℕ) → Reaches n xs b r k
     → Reaches n ys b r k
-reaches-replied n xs ys replies b r k reach = record {
+reaches-kept n xs ys keeps b r k reach = record {
   below = reach.below;
-  own = λ p y e at. let was = replies.each p y at in ap (bucket n) was.2 ∙ reach.own p was.0 e was.1;
-  past = λ i y from to at o. let was = replies.each i y at in
+  own = λ p y e at. let was = keeps.each p y at in ap (bucket n) was.2 ∙ reach.own p was.0 e was.1;
+  past = λ i y from to at o. let was = keeps.each i y at in
       was.3 (reach.past i was.0 from to was.1 (ap (bucket n) (sym was.2) ∙ o));
 }
 
-pub chained-replied : (n : ℕ) (heads older : List ℕ) (xs ys : List AskedMessage) → IsReplied xs ys
+pub chained-kept : (n : ℕ) (heads older : List ℕ) (xs ys : List AskedMessage) → KeepsChains xs ys
     → IsChained n heads older xs → IsChained n heads older ys
-chained-replied n heads older xs ys replies chained = record {
+chained-kept n heads older xs ys keeps chained = record {
   wide = chained.wide;
-  long = chained.long ∙ sym replies.long;
-  some = λ nonempty. chained.some (omega (arith, nonempty, replies.long));
-  small = λ i y at. let was = replies.each i y at in omega (arith, was.2, chained.small i was.0 was.1);
-  begins = λ b there. subst (λ (k : ℕ). Reaches n ys b (get_or heads b 0) k) (sym replies.long)
-      (reaches-replied n xs ys replies b (get_or heads b 0) (length xs) (chained.begins b there));
-  goes_on = λ j y at. let was = replies.each j y at in
+  long = chained.long ∙ sym keeps.long;
+  some = λ nonempty. chained.some (omega (arith, nonempty, keeps.long));
+  small = λ i y at. let was = keeps.each i y at in omega (arith, was.2, chained.small i was.0 was.1);
+  begins = λ b there. subst (λ (k : ℕ). Reaches n ys b (get_or heads b 0) k) (sym keeps.long)
+      (reaches-kept n xs ys keeps b (get_or heads b 0) (length xs) (chained.begins b there));
+  goes_on = λ j y at. let was = keeps.each j y at in
       subst (λ (id : ℕ). Reaches n ys (bucket n id) (get_or older j 0) j) (sym was.2)
-      (reaches-replied n xs ys replies (bucket n was.0.order_id) (get_or older j 0) j (chained.goes_on j was.0 was.1));
+      (reaches-kept n xs ys keeps (bucket n was.0.order_id) (get_or older j 0) j (chained.goes_on j was.0 was.1));
 }
 
 -- ---- as the code has them
@@ -350,19 +355,3 @@ reaches-on n heads older xs chained r s x some at settled is_read b k reach =
     let whole : r ≡ (r - 1) + 1 = omega arith in
     subst (λ (t : ℕ). Reaches n xs b t k) (sym is_read)
     (reaches-past n heads older xs chained (r - 1) x at settled b k (subst (λ (t : ℕ). Reaches n xs b t k) whole reach))
-
--- chains of no messages
-pub chained-none : (n : ℕ) (heads older : List ℕ) (xs : List AskedMessage) → length heads ≡ n → length older ≡ 0
-    → length xs ≡ 0 → ((b : ℕ) → b < n → get_or heads b 0 ≡ 0) → IsChained n heads older xs
-chained-none n heads older xs wide none no_xs empty = record {
-  wide = wide;
-  long = none ∙ sym no_xs;
-  some = λ nonempty. absurd (omega (arith, nonempty, no_xs));
-  small = λ i x at. absurd (omega (arith, slice_get_within xs i x at, no_xs));
-  begins = λ b there. record {
-    below = omega (arith, empty b there);
-    own = λ p x e at. absurd (omega (arith, slice_get_within xs p x at, no_xs));
-    past = λ i x from to at own. absurd (omega (arith, slice_get_within xs i x at, no_xs));
-  };
-  goes_on = λ j x at. absurd (omega (arith, slice_get_within xs j x at, no_xs));
-}

@@ -4,7 +4,7 @@ mod Lists
 mod Holding
 mod Marks
 mod Chaining
-mod Replying
+mod Answered
 mod Walking
 pub mod Asking
 mod Finding

@@ -1,15 +1,16 @@
 -- Marks on messages: those that are answered, settled, and awaited again.
-use Rattle.std.proofs.Common.{◌≡◌, ℕ, zero, suc, ◌+◌, ◌<◌, ◌≤◌, Bool, true, false, List, [], ◌∷◌, ◌++◌, length, map, take}
+use Rattle.std.proofs.Common.{◌≡◌, ℕ, zero, suc, ◌+◌, ◌<◌, ◌≤◌, Bool, true, false, List, [], ◌∷◌, ◌++◌, length, map}
+use Rattle.std.proofs.Common.{take}
 use Rattle.std.proofs.Common.{get_or, set, refl, sym, ap, ◌∙◌, arith}
 use Rattle.std.specs.Prelude.{not, filter, if◌then◌else◌, decimal}
 use Rattle.std.proofs.lemmas.List.{map-append, take-map, take-take}
 use Rattle.std.proofs.lemmas.List.Elements.{filter-append}
 use Rattle.order_law.specs.ouch_codec.declared.inbound.Inbound.{Inbound}
 use Rattle.outstanding.specs.declared.asked.AskedMessage.{AskedMessage}
-use Rattle.outstanding.specs.declared.asked.Reply.{Reply}
-use Rattle.outstanding.specs.declared.asked.Reply.TheVariants.{Awaited, Given, Settled}
+use Rattle.outstanding.specs.declared.asked.Answer.{Answer}
+use Rattle.outstanding.specs.declared.asked.Answer.TheVariants.{Awaited, Given, Settled}
 use Rattle.outstanding.specs.Kept.{KeptMessage, kept_from, seen}
-use Rattle.outstanding.specs.Marks.{asked_of, awaited_again, awaits, buried, given_if, held, is_held}
+use Rattle.outstanding.specs.Marks.{asked_of, awaited_again, awaits, settled_one, given_if, held, is_held}
 use Rattle.outstanding.specs.Marks.{is_unanswered, marked_by, settled_now, unanswered, unmarked}
 use Rattle.outstanding.specs.Marks.{was_settled}
 
@@ -42,36 +43,36 @@ unanswered-pushed xs port order_id ms =
 pub marks-answer : (test : KeptMessage → Bool) (xs : List AskedMessage)
     → unanswered (map (marked_by test) xs) ≡ filter (λ (k : KeptMessage). not (test k)) (unanswered xs)
 marks-answer test [] = refl
-marks-answer test (x ∷ xs) = by_reply x.reply (test (seen x)) refl (marks-answer test xs)
+marks-answer test (x ∷ xs) = by_answer x.answer (test (seen x)) refl (marks-answer test xs)
   where
     left : List KeptMessage
     left = filter (λ (k : KeptMessage). not (test k)) (unanswered xs)
 
-    by_reply : (r : Reply) (b : Bool) → test (seen x) ≡ b
+    by_answer : (r : Answer) (b : Bool) → test (seen x) ≡ b
         → unanswered (map (marked_by test) xs) ≡ filter (λ (k : KeptMessage). not (test k)) (unanswered xs)
-        → map seen (if awaits (given_if b r) then record x { reply = given_if b r } ∷ filter is_unanswered
+        → map seen (if awaits (given_if b r) then record x { answer = given_if b r } ∷ filter is_unanswered
         (map (marked_by test) xs) else filter is_unanswered (map (marked_by test) xs))
         ≡ filter (λ (k : KeptMessage). not (test k))
-        (map seen (if awaits r then record x { reply = r } ∷ filter is_unanswered xs else filter is_unanswered xs))
-    by_reply Awaited true e rest = rest ∙ sym (ap (λ (c : Bool). if not c then seen x ∷ left else left) e)
-    by_reply Awaited false e rest = ap (λ (ks : List KeptMessage). seen x ∷ ks) rest
+        (map seen (if awaits r then record x { answer = r } ∷ filter is_unanswered xs else filter is_unanswered xs))
+    by_answer Awaited true e rest = rest ∙ sym (ap (λ (c : Bool). if not c then seen x ∷ left else left) e)
+    by_answer Awaited false e rest = ap (λ (ks : List KeptMessage). seen x ∷ ks) rest
         ∙ sym (ap (λ (c : Bool). if not c then seen x ∷ left else left) e)
-    by_reply Given b e rest = rest
-    by_reply Settled b e rest = rest
+    by_answer Given b e rest = rest
+    by_answer Settled b e rest = rest
 
 -- answers settle nothing
 held-marked : (test : KeptMessage → Bool) (xs : List AskedMessage) → held (map (marked_by test) xs) ≡ held xs
 held-marked test [] = refl
-held-marked test (x ∷ xs) = by_reply x.reply (test (seen x)) (held-marked test xs)
+held-marked test (x ∷ xs) = by_answer x.answer (test (seen x)) (held-marked test xs)
   where
-    by_reply : (r : Reply) (b : Bool) → held (map (marked_by test) xs) ≡ held xs
-        → map seen (if not (was_settled (given_if b r)) then record x { reply = given_if b r } ∷ filter is_held
+    by_answer : (r : Answer) (b : Bool) → held (map (marked_by test) xs) ≡ held xs
+        → map seen (if not (was_settled (given_if b r)) then record x { answer = given_if b r } ∷ filter is_held
         (map (marked_by test) xs) else filter is_held (map (marked_by test) xs))
-        ≡ map seen (if not (was_settled r) then record x { reply = r } ∷ filter is_held xs else filter is_held xs)
-    by_reply Awaited true rest = ap (λ (ks : List KeptMessage). seen x ∷ ks) rest
-    by_reply Awaited false rest = ap (λ (ks : List KeptMessage). seen x ∷ ks) rest
-    by_reply Given b rest = ap (λ (ks : List KeptMessage). seen x ∷ ks) rest
-    by_reply Settled b rest = rest
+        ≡ map seen (if not (was_settled r) then record x { answer = r } ∷ filter is_held xs else filter is_held xs)
+    by_answer Awaited true rest = ap (λ (ks : List KeptMessage). seen x ∷ ks) rest
+    by_answer Awaited false rest = ap (λ (ks : List KeptMessage). seen x ∷ ks) rest
+    by_answer Given b rest = ap (λ (ks : List KeptMessage). seen x ∷ ks) rest
+    by_answer Settled b rest = rest
 
 pub marks-keep : (test : KeptMessage → Bool) (n : ℕ) (xs : List AskedMessage)
     → held (take n (map (marked_by test) xs)) ≡ held (take n xs)
@@ -80,83 +81,88 @@ marks-keep test n xs = ap held (take-map (marked_by test) n xs) ∙ held-marked 
 -- ---- settled
 
 -- what is settled was answered
-pub unanswered-buried : (xs : List AskedMessage) → filter is_unanswered (map buried xs) ≡ filter is_unanswered xs
-unanswered-buried [] = refl
-unanswered-buried (x ∷ xs) = by_reply x.reply (unanswered-buried xs)
+pub unanswered-settled_one : (xs : List AskedMessage)
+    → filter is_unanswered (map settled_one xs) ≡ filter is_unanswered xs
+unanswered-settled_one [] = refl
+unanswered-settled_one (x ∷ xs) = by_answer x.answer (unanswered-settled_one xs)
   where
-    by_reply : (r : Reply) → filter is_unanswered (map buried xs) ≡ filter is_unanswered xs
-        → (if awaits (settled_now r) then record x { reply = settled_now r } ∷ filter is_unanswered (map buried xs)
-        else filter is_unanswered (map buried xs))
-        ≡ (if awaits r then record x { reply = r } ∷ filter is_unanswered xs else filter is_unanswered xs)
-    by_reply Awaited rest = ap (λ (qs : List AskedMessage). record x { reply = Awaited } ∷ qs) rest
-    by_reply Given rest = rest
-    by_reply Settled rest = rest
+    by_answer : (r : Answer) → filter is_unanswered (map settled_one xs) ≡ filter is_unanswered xs
+        → (if awaits (settled_now r) then record x { answer = settled_now r } ∷ filter is_unanswered
+        (map settled_one xs)
+        else filter is_unanswered (map settled_one xs))
+        ≡ (if awaits r then record x { answer = r } ∷ filter is_unanswered xs else filter is_unanswered xs)
+    by_answer Awaited rest = ap (λ (qs : List AskedMessage). record x { answer = Awaited } ∷ qs) rest
+    by_answer Given rest = rest
+    by_answer Settled rest = rest
 
 -- all that is held then isn't answered
-pub held-buried : (xs : List AskedMessage) → filter is_held (map buried xs) ≡ filter is_unanswered (map buried xs)
-held-buried [] = refl
-held-buried (x ∷ xs) = by_reply x.reply (held-buried xs)
+pub held-settled_one : (xs : List AskedMessage)
+    → filter is_held (map settled_one xs) ≡ filter is_unanswered (map settled_one xs)
+held-settled_one [] = refl
+held-settled_one (x ∷ xs) = by_answer x.answer (held-settled_one xs)
   where
-    by_reply : (r : Reply) → filter is_held (map buried xs) ≡ filter is_unanswered (map buried xs)
-        → (if not (was_settled (settled_now r)) then record x { reply = settled_now r } ∷ filter is_held (map buried xs)
-        else filter is_held (map buried xs))
-        ≡ (if awaits (settled_now r) then record x { reply = settled_now r } ∷ filter is_unanswered (map buried xs) else
-        filter is_unanswered (map buried xs))
-    by_reply Awaited rest = ap (λ (qs : List AskedMessage). record x { reply = Awaited } ∷ qs) rest
-    by_reply Given rest = rest
-    by_reply Settled rest = rest
+    by_answer : (r : Answer) → filter is_held (map settled_one xs) ≡ filter is_unanswered (map settled_one xs)
+        → (if not (was_settled (settled_now r)) then record x { answer = settled_now r } ∷ filter is_held
+        (map settled_one xs)
+        else filter is_held (map settled_one xs))
+        ≡ (if awaits (settled_now r) then record x { answer = settled_now r } ∷ filter is_unanswered
+        (map settled_one xs) else
+        filter is_unanswered (map settled_one xs))
+    by_answer Awaited rest = ap (λ (qs : List AskedMessage). record x { answer = Awaited } ∷ qs) rest
+    by_answer Given rest = rest
+    by_answer Settled rest = rest
 
 -- what isn't answered, once more
 pub unanswered-twice : (xs : List AskedMessage)
     → filter is_unanswered (filter is_unanswered xs) ≡ filter is_unanswered xs
 unanswered-twice [] = refl
-unanswered-twice (x ∷ xs) = by_reply x.reply (unanswered-twice xs)
+unanswered-twice (x ∷ xs) = by_answer x.answer (unanswered-twice xs)
   where
-    by_reply : (r : Reply) → filter is_unanswered (filter is_unanswered xs) ≡ filter is_unanswered xs
-        → filter is_unanswered (if awaits r then record x { reply = r } ∷ filter is_unanswered xs else filter
+    by_answer : (r : Answer) → filter is_unanswered (filter is_unanswered xs) ≡ filter is_unanswered xs
+        → filter is_unanswered (if awaits r then record x { answer = r } ∷ filter is_unanswered xs else filter
         is_unanswered xs)
-        ≡ (if awaits r then record x { reply = r } ∷ filter is_unanswered xs else filter is_unanswered xs)
-    by_reply Awaited rest = ap (λ (qs : List AskedMessage). record x { reply = Awaited } ∷ qs) rest
-    by_reply Given rest = rest
-    by_reply Settled rest = rest
+        ≡ (if awaits r then record x { answer = r } ∷ filter is_unanswered xs else filter is_unanswered xs)
+    by_answer Awaited rest = ap (λ (qs : List AskedMessage). record x { answer = Awaited } ∷ qs) rest
+    by_answer Given rest = rest
+    by_answer Settled rest = rest
 
 pub held-unanswered : (xs : List AskedMessage) → filter is_held (filter is_unanswered xs) ≡ filter is_unanswered xs
 held-unanswered [] = refl
-held-unanswered (x ∷ xs) = by_reply x.reply (held-unanswered xs)
+held-unanswered (x ∷ xs) = by_answer x.answer (held-unanswered xs)
   where
-    by_reply : (r : Reply) → filter is_held (filter is_unanswered xs) ≡ filter is_unanswered xs
-        → filter is_held (if awaits r then record x { reply = r } ∷ filter is_unanswered xs else filter
+    by_answer : (r : Answer) → filter is_held (filter is_unanswered xs) ≡ filter is_unanswered xs
+        → filter is_held (if awaits r then record x { answer = r } ∷ filter is_unanswered xs else filter
         is_unanswered xs)
-        ≡ (if awaits r then record x { reply = r } ∷ filter is_unanswered xs else filter is_unanswered xs)
-    by_reply Awaited rest = ap (λ (qs : List AskedMessage). record x { reply = Awaited } ∷ qs) rest
-    by_reply Given rest = rest
-    by_reply Settled rest = rest
+        ≡ (if awaits r then record x { answer = r } ∷ filter is_unanswered xs else filter is_unanswered xs)
+    by_answer Awaited rest = ap (λ (qs : List AskedMessage). record x { answer = Awaited } ∷ qs) rest
+    by_answer Given rest = rest
+    by_answer Settled rest = rest
 
 -- ---- awaited again
 
 again-held : (xs : List AskedMessage) → unanswered (map unmarked xs) ≡ held xs
 again-held [] = refl
-again-held (x ∷ xs) = by_reply x.reply (again-held xs)
+again-held (x ∷ xs) = by_answer x.answer (again-held xs)
   where
-    by_reply : (r : Reply) → unanswered (map unmarked xs) ≡ held xs
-        → map seen (if awaits (awaited_again r) then record x { reply = awaited_again r } ∷ filter is_unanswered
+    by_answer : (r : Answer) → unanswered (map unmarked xs) ≡ held xs
+        → map seen (if awaits (awaited_again r) then record x { answer = awaited_again r } ∷ filter is_unanswered
         (map unmarked xs) else filter is_unanswered (map unmarked xs))
-        ≡ map seen (if not (was_settled r) then record x { reply = r } ∷ filter is_held xs else filter is_held xs)
-    by_reply Awaited rest = ap (λ (ks : List KeptMessage). seen x ∷ ks) rest
-    by_reply Given rest = ap (λ (ks : List KeptMessage). seen x ∷ ks) rest
-    by_reply Settled rest = rest
+        ≡ map seen (if not (was_settled r) then record x { answer = r } ∷ filter is_held xs else filter is_held xs)
+    by_answer Awaited rest = ap (λ (ks : List KeptMessage). seen x ∷ ks) rest
+    by_answer Given rest = ap (λ (ks : List KeptMessage). seen x ∷ ks) rest
+    by_answer Settled rest = rest
 
 held-again : (xs : List AskedMessage) → held (map unmarked xs) ≡ held xs
 held-again [] = refl
-held-again (x ∷ xs) = by_reply x.reply (held-again xs)
+held-again (x ∷ xs) = by_answer x.answer (held-again xs)
   where
-    by_reply : (r : Reply) → held (map unmarked xs) ≡ held xs
-        → map seen (if not (was_settled (awaited_again r)) then record x { reply = awaited_again r } ∷ filter is_held
+    by_answer : (r : Answer) → held (map unmarked xs) ≡ held xs
+        → map seen (if not (was_settled (awaited_again r)) then record x { answer = awaited_again r } ∷ filter is_held
         (map unmarked xs) else filter is_held (map unmarked xs))
-        ≡ map seen (if not (was_settled r) then record x { reply = r } ∷ filter is_held xs else filter is_held xs)
-    by_reply Awaited rest = ap (λ (ks : List KeptMessage). seen x ∷ ks) rest
-    by_reply Given rest = ap (λ (ks : List KeptMessage). seen x ∷ ks) rest
-    by_reply Settled rest = rest
+        ≡ map seen (if not (was_settled r) then record x { answer = r } ∷ filter is_held xs else filter is_held xs)
+    by_answer Awaited rest = ap (λ (ks : List KeptMessage). seen x ∷ ks) rest
+    by_answer Given rest = ap (λ (ks : List KeptMessage). seen x ∷ ks) rest
+    by_answer Settled rest = rest
 
 -- those that were settled are awaited again, and no others
 pub unmarked-unanswered : (n : ℕ) (xs : List AskedMessage)

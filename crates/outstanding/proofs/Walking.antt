@@ -7,13 +7,14 @@ use Rattle.outstanding.specs.Chaining.{bucket}
 use Rattle.outstanding.specs.Kept.{asked_by_fields, is_answered_by}
 use Rattle.outstanding.specs.Marks.{marked_by}
 use Rattle.outstanding.proofs.Holding.{answered-by_fields}
-use Rattle.outstanding.proofs.Replying.{IsOfBucket, marked-not, marked-settled, marked-twice}
+use Rattle.outstanding.proofs.Answered.{IsOfBucket, marked-not, marked-settled, marked-twice}
 
 and-other : (p o x : Bool) → o ≡ false → (p && (o && x)) ≡ false
 and-other true o x e = rw e refl
 and-other false o x e = refl
 
-pub answers-own : (n port : ℕ) (m : Outbound) (next : List (List ℕ)) (order_id : ℕ) (is_closed : Bool) → order_id < 2 ^ 64
+pub answers-own : (n port : ℕ) (m : Outbound) (next : List (List ℕ)) (order_id : ℕ) (is_closed : Bool)
+    → order_id < 2 ^ 64
     → IsOfBucket (marked_by (is_answered_by port m next (decimal order_id) is_closed)) n (bucket n order_id)
 answers-own n port m next order_id is_closed small = record {
   twice = marked-twice (is_answered_by port m next (decimal order_id) is_closed);

@@ -11,17 +11,17 @@ pub struct AskedMessage {
     pub message: Inbound,
     /// The number of its port, from 1.
     pub port: u16,
-    /// How the market answered it.
-    pub reply: Reply,
+    /// Whether the market answered it.
+    pub answer: Answer,
 }
 
-/// How the market answered a message.
+/// Whether the market answered a message.
 #[derive(Clone, Copy)]
-pub enum Reply {
+pub enum Answer {
     /// Not yet.
     Awaited,
-    /// Since the messages were settled, so that `undo` has it awaited again.
+    /// Since the messages were settled: if that is undone, it is awaited again.
     Given,
-    /// Before that: the message is no more, and its place is freed with others.
+    /// Before they were settled: the message is no more, and keeps its place until that is freed.
     Settled,
 }

@@ -1,13 +1,16 @@
 //! Where the messages of an order stand.
 
-ghost use Rattle.std.specs.Prelude.{◌≡◌, ◌<◌, ◌≤◌, ◌+◌, ◌++◌, ◌∷◌, [], ℕ, List, Some, length, slice_get};
+ghost use Rattle.std.specs.Prelude.{◌≡◌, ◌<◌, ◌≤◌, ◌+◌, ◌^◌, ◌++◌, ◌∷◌, [], ℕ, List, Some, length, slice_get};
 ghost use Rattle.std.specs.Prelude.{vec_len, vec_capacity, EachIndex, OnOk, slice_index};
 ghost use Rattle.outstanding.specs.declared.asked.AskedMessage.{AskedMessage};
 ghost use Rattle.outstanding.specs.Chaining.{IsChained, Reaches, bucket};
 ghost use Rattle.outstanding.specs.Marks.{is_settled};
 
-use crate::asked::{AskedMessage, Reply};
+use crate::asked::{Answer, AskedMessage};
 use std::alloc::AllocError;
+
+/// How many messages there may be.
+const MOST: usize = u32::MAX as usize;
 
 /// Chains that lead from the newest message of an order to its oldest, past those of others. Orders are spread over
 /// buckets, each with a chain; a message has a place from 0, and one that is settled may be left out.
@@ -17,9 +20,9 @@ use std::alloc::AllocError;
 #[derive(Drop)]
 pub(crate) struct Chains {
     /// Of each bucket, the reach among all messages.
-    pub heads: Vec<usize>,
+    pub heads: Vec<u32>,
     /// Of each message, the reach of its bucket among those that are older.
-    pub older: Vec<usize>,
+    pub older: Vec<u32>,
 }
 
 impl Chains {
@@ -29,9 +32,13 @@ impl Chains {
         ensures chained { IsChained (vec_len self.new.heads) self.new.heads.items self.new.older.items messages.now }
         ensures room { OnOk result (vec_len self.new.older + more ≤ vec_capacity self.new.older) }
         ensures heads { OnOk result (0 < more → 0 < vec_len self.new.heads) }
+        ensures few { OnOk result (vec_len self.new.older + more < 2 ^ 32) }
         ensures kept { vec_capacity self.old.older ≤ vec_capacity self.new.older }
     {
         self.older.reserve(more)?;
+        if self.older.len() + more > MOST {
+            return Err(AllocError);
+        }
         if self.heads.len() < self.older.len() + more {
             self.heads.resize(self.older.capacity(), 0)?;
             self.relink(messages);
@@ -43,6 +50,7 @@ impl Chains {
     pub fn relink(&mut self, messages: &[AskedMessage])
         requires heads { 0 < length messages.now → 0 < vec_len self.old.heads }
         requires room { length messages.now ≤ vec_capacity self.old.older }
+        requires few { length messages.now < 2 ^ 32 }
         ensures chained { IsChained (vec_len self.new.heads) self.new.heads.items self.new.older.items messages.now }
         ensures heads { vec_len self.new.heads ≡ vec_len self.old.heads }
         ensures room { vec_capacity self.new.older ≡ vec_capacity self.old.older }
@@ -58,6 +66,7 @@ impl Chains {
     pub fn link(&mut self, order_id: u64)
         requires heads { 0 < vec_len self.old.heads }
         requires room { vec_len self.old.older < vec_capacity self.old.older }
+        requires few { vec_len self.old.older + 1 < 2 ^ 32 }
         ensures chained { (xs : List AskedMessage) (x : AskedMessage) → x.order_id ≡ order_id
             → IsChained (vec_len self.old.heads) self.old.heads.items self.old.older.items xs
             → IsChained (vec_len self.new.heads) self.new.heads.items self.new.older.items (xs ++ x ∷ []) }
@@ -67,7 +76,7 @@ impl Chains {
     {
         let bucket = bucket_of(order_id, self.heads.len());
         self.older.push_reserved(self.heads[bucket]);
-        self.heads[bucket] = self.older.len();
+        self.heads[bucket] = self.older.len() as u32;
     }
 
     /// Takes out the newest message, which is of an order.
@@ -85,7 +94,7 @@ impl Chains {
     }
 
     /// The reach of an order among all messages: where its chain begins. What is settled there is left out from now on.
-    pub fn first(&mut self, messages: &[AskedMessage], order_id: u64) -> usize
+    pub fn first(&mut self, messages: &[AskedMessage], order_id: u64) -> u32
         requires chained { IsChained (vec_len self.old.heads) self.old.heads.items self.old.older.items messages.now }
         ensures chained { IsChained (vec_len self.old.heads) self.new.heads.items self.new.older.items messages.now }
         ensures reach { Reaches (vec_len self.old.heads) messages.now (bucket (vec_len self.old.heads) order_id)
@@ -104,7 +113,7 @@ impl Chains {
 
     /// The reach of a message's bucket among those that are older: where its chain goes on. What is settled there is
     /// left out from now on.
-    pub fn next(&mut self, messages: &[AskedMessage], place: usize) -> usize
+    pub fn next(&mut self, messages: &[AskedMessage], place: u32) -> u32
         requires chained { IsChained (vec_len self.old.heads) self.old.heads.items self.old.older.items messages.now }
         requires inside { place < length messages.now }
         ensures chained { IsChained (vec_len self.old.heads) self.new.heads.items self.new.older.items messages.now }
@@ -114,13 +123,13 @@ impl Chains {
         ensures heads { vec_len self.new.heads ≡ vec_len self.old.heads }
         ensures room { vec_capacity self.new.older ≡ vec_capacity self.old.older }
     {
-        let reach = self.past_settled(messages, self.older[place]);
-        self.older[place] = reach;
+        let reach = self.past_settled(messages, self.older[place as usize]);
+        self.older[place as usize] = reach;
         reach
     }
 
     /// A reach without the settled messages at its end.
-    fn past_settled(&self, messages: &[AskedMessage], from: usize) -> usize
+    fn past_settled(&self, messages: &[AskedMessage], from: u32) -> u32
         requires chained { IsChained (vec_len self.now.heads) self.now.heads.items self.now.older.items messages.now }
         requires inside { from ≤ length messages.now }
         ensures reach { (b k : ℕ) → Reaches (vec_len self.now.heads) messages.now b from k
@@ -129,10 +138,11 @@ impl Chains {
     {
         let mut reach = from;
         while reach > 0 {
-            if !is_settled(&messages[reach - 1]) {
+            let place = reach as usize - 1;
+            if !is_settled(&messages[place]) {
                 return reach;
             }
-            reach = self.older[reach - 1];
+            reach = self.older[place];
         }
         reach
     }
@@ -142,11 +152,11 @@ impl Chains {
 fn is_settled(asked: &AskedMessage) -> bool
     ensures { result ≡ is_settled asked.now }
 {
-    matches!(asked.reply, Reply::Settled)
+    matches!(asked.answer, Answer::Settled)
 }
 
 /// Writes 0 into each.
-fn empty(reaches: &mut Vec<usize>)
+fn empty(reaches: &mut Vec<u32>)
     ensures items { EachIndex reaches.new.items (λ k. slice_index reaches.new.items k ≡ 0) }
     ensures len { vec_len reaches.new ≡ vec_len reaches.old }
 {

@@ -12,8 +12,8 @@
 mod answering;
 mod asked;
 mod chains;
+mod marking;
 mod messages;
 mod places;
-mod replies;
 
 pub use messages::AskedMessages;

@@ -7,8 +7,8 @@ ghost use Rattle.outstanding.specs.Kept.{bytes_on, kept_from, left_by};
 ghost use Rattle.outstanding.specs.Marks.{asked_of, unanswered};
 
 use crate::asked::AskedMessage;
+use crate::marking::is_unanswered;
 use crate::places::Places;
-use crate::replies::is_unanswered;
 use order_law::{Inbound, Outbound};
 use std::alloc::{AllocError, Global};
 use std::marker::Model;

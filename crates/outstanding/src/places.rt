@@ -1,14 +1,14 @@
 //! The places of messages.
 
-ghost use Rattle.std.specs.Prelude.{◌≡◌, ◌+◌, ◌≤◌, ◌<◌, ◌++◌, ◌∷◌, [], map, filter, take, decimal, length};
+ghost use Rattle.std.specs.Prelude.{◌≡◌, ◌+◌, ◌≤◌, ◌<◌, ◌^◌, ◌++◌, ◌∷◌, [], map, filter, take, decimal, length};
 ghost use Rattle.std.specs.Prelude.{vec_len, vec_capacity, IfOk};
 ghost use Rattle.outstanding.specs.Chaining.{AreNoted, IsChained};
 ghost use Rattle.outstanding.specs.Kept.{is_answered_by};
-ghost use Rattle.outstanding.specs.Marks.{asked_of, buried, is_held, is_unanswered, marked_by, unmarked};
+ghost use Rattle.outstanding.specs.Marks.{asked_of, settled_one, is_held, is_unanswered, marked_by, unmarked};
 
-use crate::asked::{AskedMessage, Reply};
+use crate::asked::{Answer, AskedMessage};
 use crate::chains::Chains;
-use crate::replies::{bury, is_unanswered, mark, unmark};
+use crate::marking::{is_unanswered, mark, settle_marked, unmark};
 use order_law::{Inbound, Outbound};
 use std::alloc::{AllocError, Global};
 use std::marker::Model;
@@ -25,7 +25,7 @@ pub(crate) struct Places {
     messages: Vec<AskedMessage>,
     chains: Chains,
     /// The places of those that were answered since they were settled.
-    given: Vec<usize>,
+    given: Vec<u32>,
     /// How many are settled.
     settled: usize,
     /// For how many more there is room.
@@ -35,6 +35,7 @@ pub(crate) struct Places {
     ghost messages_fit: { room + vec_len messages ≤ vec_capacity messages },
     ghost chains_fit: { room + vec_len messages ≤ vec_capacity chains.older },
     ghost given_fit: { room + (vec_len given + length (filter is_unanswered messages.items)) ≤ vec_capacity given },
+    ghost few: { room + vec_len messages < 2 ^ 32 },
     ghost buckets: { 0 < room → 0 < vec_len chains.heads },
 }
 
@@ -94,7 +95,7 @@ impl Places {
             order_id,
             message: *message,
             port,
-            reply: Reply::Awaited,
+            answer: Answer::Awaited,
         });
         self.room -= 1;
     }
@@ -128,18 +129,18 @@ impl Places {
         ensures unanswered { filter is_unanswered self.new.items ≡ filter is_unanswered self.old.items }
         ensures held { filter is_held self.new.items ≡ filter is_unanswered self.new.items }
     {
-        self.bury();
+        self.settle_marked();
         if self.is_sparse() {
             self.compact();
         }
     }
 
     /// Settles those that were answered.
-    fn bury(&mut self)
-        ensures { self.new.items ≡ map buried self.old.items }
+    fn settle_marked(&mut self)
+        ensures { self.new.items ≡ map settled_one self.old.items }
     {
         self.settled = self.settled.saturating_add(self.given.len());
-        bury(&mut self.messages, &mut self.given);
+        settle_marked(&mut self.messages, &mut self.given);
     }
 
     /// Whether most are settled.

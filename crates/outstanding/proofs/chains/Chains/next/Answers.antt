@@ -29,7 +29,8 @@ returns-clause-chained c =
     get_or_read_under chains.older.items p (length xs) c.index.result.now 0 c.index.ensures
     c.requires.inside (sym c.requires.chained.long) in
     let it = get-there xs p c.requires.inside in
-    chained-goes_on n chains.heads.items chains.older.items xs c.requires.chained p c.past_settled-reach.result it.0 it.1
+    chained-goes_on n chains.heads.items chains.older.items xs c.requires.chained p c.past_settled-reach.result it.0
+    it.1
     (c.past_settled-reach.ensures.reach (bucket n it.0.order_id) p
     (subst (λ r. Reaches n xs (bucket n it.0.order_id) r p) (sym is_read) (c.requires.chained.goes_on p it.0 it.1)))
 

@@ -18,13 +18,13 @@ loop-reach-preserved c =
     let below : c.index-reach.result.now ≤ p =
     older-below n chains.heads.items chains.older.items c.args.messages.now c.requires.chained p
     c.index-reach.result.now (omega arith) is_read in
-    let at : slice_get c.args.messages.now p ≡ Some c.index-messages-reach.result =
-    slice_get_read c.args.messages.now (length c.args.messages.now) p c.index-messages-reach.result (omega arith)
-    (omega arith) c.index-messages-reach.is in
-    let settled : is_settled c.index-messages-reach.result ≡ true =
+    let at : slice_get c.args.messages.now p ≡ Some c.index-messages-place.result =
+    slice_get_read c.args.messages.now (length c.args.messages.now) p c.index-messages-place.result (omega arith)
+    (omega arith) c.index-messages-place.is in
+    let settled : is_settled c.index-messages-place.result ≡ true =
     sym c.is_settled.ensures ∙ c.if-not-is_settled.false in (
       omega arith,
       λ b k reach. reaches-on n chains.heads.items chains.older.items c.args.messages.now c.requires.chained
-          c.loop-reach.reach c.index-reach.result.now c.index-messages-reach.result (omega arith) at settled is_read b k
+          c.loop-reach.reach c.index-reach.result.now c.index-messages-place.result (omega arith) at settled is_read b k
           (c.loop-reach.invariant.1 b k reach),
     )

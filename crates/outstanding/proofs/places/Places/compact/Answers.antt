@@ -4,7 +4,7 @@ use Rattle.std.proofs.lemmas.Fn.{filter_same}
 use Rattle.outstanding.specs.Chaining.{AreNoted, IsChained, Placed}
 use Rattle.outstanding.specs.Marks.{is_unanswered}
 use Rattle.outstanding.proofs.Marks.{unanswered-twice}
-use Rattle.outstanding.proofs.Replying.{noted-awaited}
+use Rattle.outstanding.proofs.Answered.{noted-awaited}
 use Rattle.outstanding.proofs.places.Places.compact.Goals as goal
 
 pub invariant_of-self-inside : goal.invariant_of-self-inside
@@ -27,7 +27,14 @@ invariant_of-self-inside c =
                 ap (λ xs. length (filter is_unanswered xs)) left,
                 ap length (unanswered-twice p.messages.items),
               ),
-              (λ some. omega (arith, c.relink.ensures.heads, p.buckets some), tt),
+              (
+                omega (arith, c.retain.ensures.bound),
+                (
+                  λ some. omega
+                      (arith, c.relink.ensures.heads, p.buckets some),
+                  tt,
+                ),
+              ),
             ),
           ),
         ),

@@ -5,7 +5,7 @@ use Rattle.std.proofs.lemmas.List.Elements.{filter-append}
 use Rattle.outstanding.specs.declared.asked.AskedMessage.{AskedMessage}
 use Rattle.outstanding.specs.Chaining.{AreNoted, IsChained, Placed}
 use Rattle.outstanding.specs.Marks.{asked_of, is_unanswered}
-use Rattle.outstanding.proofs.Replying.{noted-pushed}
+use Rattle.outstanding.proofs.Answered.{noted-pushed}
 use Rattle.outstanding.proofs.places.Places.push.Goals as goal
 
 pub invariant_of-self-inside : goal.invariant_of-self-inside
@@ -30,7 +30,10 @@ invariant_of-self-inside c =
             omega (arith, room, c.requires, c.push_reserved.ensures.len, c.link.ensures.room),
             (
               omega (arith, room, c.requires, waiting),
-              (λ some. omega (arith, c.link.ensures.heads, p.buckets (omega arith)), tt),
+              (
+                omega (arith, room, c.requires, c.push_reserved.ensures.len),
+                (λ some. omega (arith, c.link.ensures.heads, p.buckets (omega arith)), tt),
+              ),
             ),
           ),
         ),

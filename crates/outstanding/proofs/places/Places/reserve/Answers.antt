@@ -27,7 +27,16 @@ invariant_of-self-inside-2 c =
             ),
             (
               omega (arith, c.in_ok-reserve-3.ensures.ok, c.len.ensures, count-all is_unanswered messages.items),
-              (λ some. c.in_ok-reserve-2.ensures.heads some, tt),
+              (
+                omega (
+                  arith,
+                  c.in_ok-reserve-2.ensures.few,
+                  c.in_ok-reserve.ensures.len,
+                  ap length c.reserve.ensures.items,
+                  c.reserve-2.ensures.chained.long,
+                ),
+                (λ some. c.in_ok-reserve-2.ensures.heads some, tt),
+              ),
             ),
           ),
         ),

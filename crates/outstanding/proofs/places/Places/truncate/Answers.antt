@@ -4,7 +4,7 @@ use Rattle.std.proofs.lemmas.List.{length-take}
 use Rattle.outstanding.specs.Chaining.{AreNoted}
 use Rattle.outstanding.specs.Marks.{is_unanswered}
 use Rattle.outstanding.proofs.Marks.{count-first}
-use Rattle.outstanding.proofs.Replying.{noted-first}
+use Rattle.outstanding.proofs.Answered.{noted-first}
 use Rattle.outstanding.proofs.places.Places.truncate.Goals as goal
 
 pub invariant_of-self-inside : goal.invariant_of-self-inside
@@ -27,7 +27,7 @@ invariant_of-self-inside c =
                 ap (λ ys. length (filter is_unanswered ys)) c.truncate.ensures.items,
                 count-first is_unanswered c.args.count xs,
               ),
-              (λ some. omega (arith, c.truncate.ensures.heads, p.buckets some), tt),
+              (omega (arith, fewer), (λ some. omega (arith, c.truncate.ensures.heads, p.buckets some), tt)),
             ),
           ),
         ),

@@ -3,8 +3,8 @@ use Rattle.std.specs.Prelude.{vec_len}
 use Rattle.std.proofs.lemmas.List.{length-map}
 use Rattle.outstanding.specs.Chaining.{AreNoted, IsChained}
 use Rattle.outstanding.specs.Marks.{awaited_again, unmarked}
-use Rattle.outstanding.proofs.Chaining.{chained-replied}
-use Rattle.outstanding.proofs.Replying.{unmarked-given, noted-free, replied-map, settled-again}
+use Rattle.outstanding.proofs.Chaining.{chained-kept}
+use Rattle.outstanding.proofs.Answered.{unmarked-given, noted-free, map-keeps, settled-again}
 use Rattle.outstanding.proofs.places.Places.unmark.Goals as goal
 
 pub invariant_of-self-inside : goal.invariant_of-self-inside
@@ -15,8 +15,8 @@ invariant_of-self-inside c =
     let same : vec_len c.unmark.new.messages ≡ vec_len p.messages =
     omega (arith, ap length c.unmark.ensures.items, length-map xs unmarked) in (
       subst (λ ys. IsChained n p.chains.heads.items p.chains.older.items ys) (sym c.unmark.ensures.items)
-          (chained-replied n p.chains.heads.items p.chains.older.items xs (map unmarked xs)
-          (replied-map (λ x. awaited_again) (λ x r e. settled-again r e) xs) p.chained),
+          (chained-kept n p.chains.heads.items p.chains.older.items xs (map unmarked xs)
+          (map-keeps (λ x. awaited_again) (λ x r e. settled-again r e) xs) p.chained),
       (
         subst (AreNoted c.unmark.new.given.items) (sym c.unmark.ensures.items)
             (noted-free unmarked unmarked-given c.unmark.new.given.items xs),
@@ -26,7 +26,7 @@ invariant_of-self-inside c =
             omega (arith, same),
             (
               omega (arith, c.unmark.ensures.given_fit, ap length c.unmark.ensures.none, c.unmark.ensures.room),
-              (λ some. p.buckets some, tt),
+              (omega (arith, same), (λ some. p.buckets some, tt)),
             ),
           ),
         ),

@@ -5,10 +5,10 @@ ghost use Rattle.std.specs.Prelude.{vec_len, vec_capacity, slice_index_or, slice
 ghost use Rattle.outstanding.specs.declared.asked.AskedMessage.{AskedMessage};
 ghost use Rattle.outstanding.specs.Chaining.{AreNoted, IsChained};
 ghost use Rattle.outstanding.specs.Kept.{is_answered_by, seen};
-ghost use Rattle.outstanding.specs.Marks.{buried, is_unanswered, marked_by, unmarked};
+ghost use Rattle.outstanding.specs.Marks.{settled_one, is_unanswered, marked_by, unmarked};
 
 use crate::answering::answers;
-use crate::asked::{AskedMessage, Reply};
+use crate::asked::{Answer, AskedMessage};
 use crate::chains::Chains;
 use order_law::Outbound;
 
@@ -17,7 +17,7 @@ use order_law::Outbound;
 pub(crate) fn mark(
     messages: &mut Vec<AskedMessage>,
     chains: &mut Chains,
-    given: &mut Vec<usize>,
+    given: &mut Vec<u32>,
     port: u16,
     heard: &Outbound,
     order_id: u64,
@@ -51,8 +51,8 @@ pub(crate) fn mark(
 /// Marks the one at a place, if it is answered now.
 fn mark_at(
     messages: &mut Vec<AskedMessage>,
-    given: &mut Vec<usize>,
-    place: usize,
+    given: &mut Vec<u32>,
+    place: u32,
     port: u16,
     heard: &Outbound,
     order_id: u64,
@@ -71,8 +71,15 @@ fn mark_at(
     ensures messages_fit { vec_capacity messages.new ≡ vec_capacity messages.old }
     ensures given_fit { vec_capacity given.new ≡ vec_capacity given.old }
 {
-    if is_answered_now(&messages[place], port, heard, order_id, is_closed, next) {
-        messages[place].reply = Reply::Given;
+    if is_answered_now(
+        &messages[place as usize],
+        port,
+        heard,
+        order_id,
+        is_closed,
+        next,
+    ) {
+        messages[place as usize].answer = Answer::Given;
         given.push_reserved(place);
     }
 }
@@ -98,7 +105,7 @@ fn is_answered_now(
 pub(crate) fn is_unanswered(asked: &AskedMessage) -> bool
     ensures { result ≡ is_unanswered asked.now }
 {
-    matches!(asked.reply, Reply::Awaited)
+    matches!(asked.answer, Answer::Awaited)
 }
 
 /// Whether a message from the market on a port answers one that is kept, or closes its order: the order is looked at
@@ -118,31 +125,32 @@ fn is_answered(
 }
 
 /// Settles those that were answered, at the places that are noted.
-pub(crate) fn bury(messages: &mut Vec<AskedMessage>, given: &mut Vec<usize>)
+pub(crate) fn settle_marked(messages: &mut Vec<AskedMessage>, given: &mut Vec<u32>)
     requires { AreNoted given.old.items messages.old.items }
-    ensures items { messages.new.items ≡ map buried messages.old.items }
+    ensures items { messages.new.items ≡ map settled_one messages.old.items }
     ensures messages_fit { vec_capacity messages.new ≡ vec_capacity messages.old }
     ensures none { given.new.items ≡ [] }
     ensures given_fit { vec_capacity given.new ≡ vec_capacity given.old }
 {
     while let Some(place) = given.pop() {
+        let place = place as usize;
         if place < messages.len() {
-            bury_one(&mut messages[place]);
+            settle_one(&mut messages[place]);
         }
     }
 }
 
 /// Settles one, if it was answered.
-fn bury_one(asked: &mut AskedMessage)
-    ensures { asked.new ≡ buried asked.old }
+fn settle_one(asked: &mut AskedMessage)
+    ensures { asked.new ≡ settled_one asked.old }
 {
-    if matches!(asked.reply, Reply::Given) {
-        asked.reply = Reply::Settled;
+    if matches!(asked.answer, Answer::Given) {
+        asked.answer = Answer::Settled;
     }
 }
 
 /// Has those awaited again that were answered, at the places that are noted.
-pub(crate) fn unmark(messages: &mut Vec<AskedMessage>, given: &mut Vec<usize>)
+pub(crate) fn unmark(messages: &mut Vec<AskedMessage>, given: &mut Vec<u32>)
     requires { AreNoted given.old.items messages.old.items }
     ensures items { messages.new.items ≡ map unmarked messages.old.items }
     ensures room { length (filter is_unanswered messages.new.items)
@@ -152,6 +160,7 @@ pub(crate) fn unmark(messages: &mut Vec<AskedMessage>, given: &mut Vec<usize>)
     ensures given_fit { vec_capacity given.new ≡ vec_capacity given.old }
 {
     while let Some(place) = given.pop() {
+        let place = place as usize;
         if place < messages.len() {
             unmark_one(&mut messages[place]);
         }
@@ -162,7 +171,7 @@ pub(crate) fn unmark(messages: &mut Vec<AskedMessage>, given: &mut Vec<usize>)
 fn unmark_one(asked: &mut AskedMessage)
     ensures { asked.new ≡ unmarked asked.old }
 {
-    if matches!(asked.reply, Reply::Given) {
-        asked.reply = Reply::Awaited;
+    if matches!(asked.answer, Answer::Given) {
+        asked.answer = Answer::Awaited;
     }
 }

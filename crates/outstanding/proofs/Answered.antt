@@ -1,92 +1,89 @@
--- Replies change where they are to: along a chain, and at the places that are noted.
-use Rattle.std.proofs.Common.{◌≡◌, ◌≢◌, ℕ, zero, suc, ◌+◌, ◌<◌, ◌≤◌, ◌^◌, Bool, true, false, List, [], ◌∷◌, ◌++◌, length, map}
-use Rattle.std.proofs.Common.{take, get_or, set, slice_get, refl, sym, ap, ◌∙◌, subst, ◌⊎◌, inl, inr, arith, eq-eqb, eqb-true}
+-- Answers change where they are to: along a chain, and at the places that are noted.
+use Rattle.std.proofs.Common.{◌≡◌, ◌≢◌, ℕ, zero, suc, ◌+◌, ◌<◌, ◌≤◌, ◌^◌, Bool, true, false, List, [], ◌∷◌, ◌++◌}
+use Rattle.std.proofs.Common.{length, map}
+use Rattle.std.proofs.Common.{take, get_or, set, slice_get, refl, sym, ap, ◌∙◌, subst, ◌⊎◌, inl, inr, arith, eq-eqb}
+use Rattle.std.proofs.Common.{eqb-true}
 use Rattle.std.specs.Prelude.{Option, Some, None, filter, if◌then◌else◌, nat_eq, ◌||◌}
 use Rattle.std.specs.List.{list_any}
 use Rattle.std.proofs.lemmas.Bool.{cases_eq, cases_lt}
 use Rattle.std.proofs.lemmas.Option.{get_or_from_slice_get, slice_get_within}
 use Rattle.std.proofs.lemmas.List.{length-map, length-set, map-set, set-get_or}
 use Rattle.outstanding.specs.declared.asked.AskedMessage.{AskedMessage}
-use Rattle.outstanding.specs.declared.asked.Reply.{Reply}
-use Rattle.outstanding.specs.declared.asked.Reply.TheVariants.{Awaited, Given, Settled}
+use Rattle.outstanding.specs.declared.asked.Answer.{Answer}
+use Rattle.outstanding.specs.declared.asked.Answer.TheVariants.{Awaited, Given, Settled}
 use Rattle.outstanding.specs.Kept.{KeptMessage, seen}
 use Rattle.outstanding.specs.Chaining.{AreNoted, Reaches, bucket}
-use Rattle.outstanding.specs.Marks.{awaited_again, awaits, buried, given_if, is_given, is_settled, is_unanswered}
-use Rattle.outstanding.specs.Marks.{marked_by, replied, settled_now, unmarked, was_given, was_settled}
-use Rattle.outstanding.proofs.Chaining.{IsReplied, get-changed, get-pushed, get-there}
+use Rattle.outstanding.specs.Marks.{awaited_again, awaits, settled_one, given_if, is_given, is_settled, is_unanswered}
+use Rattle.outstanding.specs.Marks.{marked_by, with_answer, settled_now, unmarked, was_given, was_settled}
+use Rattle.outstanding.proofs.Chaining.{KeepsChains, get-changed, get-pushed, get-there}
 
 same-some : {A : Type 0} (b c : A) → ◌≡◌ {A = Option A} (Some b) (Some c) → b ≡ c
 same-some b c e = cc
 
--- ---- one reply
+-- ---- one answer
 
-pub settled-given : (b : Bool) (r : Reply) → was_settled r ≡ true → was_settled (given_if b r) ≡ true
+pub settled-given : (b : Bool) (r : Answer) → was_settled r ≡ true → was_settled (given_if b r) ≡ true
 settled-given b Awaited e = absurd (cc)
 settled-given b Given e = absurd (cc)
 settled-given b Settled e = refl
 
-pub settled-now : (r : Reply) → was_settled r ≡ true → was_settled (settled_now r) ≡ true
+pub settled-now : (r : Answer) → was_settled r ≡ true → was_settled (settled_now r) ≡ true
 settled-now Awaited e = absurd (cc)
 settled-now Given e = absurd (cc)
 settled-now Settled e = refl
 
-pub settled-again : (r : Reply) → was_settled r ≡ true → was_settled (awaited_again r) ≡ true
+pub settled-again : (r : Answer) → was_settled r ≡ true → was_settled (awaited_again r) ≡ true
 settled-again Awaited e = absurd (cc)
 settled-again Given e = absurd (cc)
 settled-again Settled e = refl
 
-given-twice : (b : Bool) (r : Reply) → given_if b (given_if b r) ≡ given_if b r
+given-twice : (b : Bool) (r : Answer) → given_if b (given_if b r) ≡ given_if b r
 given-twice true Awaited = refl
 given-twice false Awaited = refl
 given-twice b Given = refl
 given-twice b Settled = refl
 
-given-not : (r : Reply) → given_if false r ≡ r
+given-not : (r : Answer) → given_if false r ≡ r
 given-not Awaited = refl
 given-not Given = refl
 given-not Settled = refl
 
-given-settled : (b : Bool) (r : Reply) → was_settled r ≡ true → given_if b r ≡ r
+given-settled : (b : Bool) (r : Answer) → was_settled r ≡ true → given_if b r ≡ r
 given-settled b Awaited e = absurd (cc)
 given-settled b Given e = absurd (cc)
 given-settled b Settled e = refl
 
-given-other : (b : Bool) (r : Reply) → awaits r ≡ false → given_if b r ≡ r
-given-other b Awaited e = absurd (cc)
-given-other b Given e = refl
-given-other b Settled e = refl
-
-now-twice : (r : Reply) → settled_now (settled_now r) ≡ settled_now r
+now-twice : (r : Answer) → settled_now (settled_now r) ≡ settled_now r
 now-twice Awaited = refl
 now-twice Given = refl
 now-twice Settled = refl
 
-now-free : (r : Reply) → was_given r ≡ false → settled_now r ≡ r
+now-free : (r : Answer) → was_given r ≡ false → settled_now r ≡ r
 now-free Awaited e = refl
 now-free Given e = absurd (cc)
 now-free Settled e = refl
 
-now-given : (r : Reply) → was_given (settled_now r) ≡ false
+now-given : (r : Answer) → was_given (settled_now r) ≡ false
 now-given Awaited = refl
 now-given Given = refl
 now-given Settled = refl
 
-again-twice : (r : Reply) → awaited_again (awaited_again r) ≡ awaited_again r
+again-twice : (r : Answer) → awaited_again (awaited_again r) ≡ awaited_again r
 again-twice Awaited = refl
 again-twice Given = refl
 again-twice Settled = refl
 
-again-free : (r : Reply) → was_given r ≡ false → awaited_again r ≡ r
+again-free : (r : Answer) → was_given r ≡ false → awaited_again r ≡ r
 again-free Awaited e = refl
 again-free Given e = absurd (cc)
 again-free Settled e = refl
 
-again-given : (r : Reply) → was_given (awaited_again r) ≡ false
+again-given : (r : Answer) → was_given (awaited_again r) ≡ false
 again-given Awaited = refl
 again-given Given = refl
 again-given Settled = refl
 
-awaits-given : (r : Reply) → awaits r ≡ true → was_given r ≡ false
+awaits-given : (r : Answer) → awaits r ≡ true → was_given r ≡ false
 awaits-given Awaited e = refl
 awaits-given Given e = absurd (cc)
 awaits-given Settled e = absurd (cc)
@@ -95,35 +92,32 @@ awaits-given Settled e = absurd (cc)
 
 pub marked-twice : (test : KeptMessage → Bool) (x : AskedMessage)
     → marked_by test (marked_by test x) ≡ marked_by test x
-marked-twice test x = ap (λ (r : Reply). record x { reply = r }) (given-twice (test (seen x)) x.reply)
+marked-twice test x = ap (λ (r : Answer). record x { answer = r }) (given-twice (test (seen x)) x.answer)
 
 pub marked-not : (test : KeptMessage → Bool) (x : AskedMessage) → test (seen x) ≡ false → marked_by test x ≡ x
-marked-not test x e = ap (λ (b : Bool). record x { reply = given_if b x.reply }) e
-    ∙ ap (λ (r : Reply). record x { reply = r }) (given-not x.reply)
+marked-not test x e = ap (λ (b : Bool). record x { answer = given_if b x.answer }) e
+    ∙ ap (λ (r : Answer). record x { answer = r }) (given-not x.answer)
 
 pub marked-settled : (test : KeptMessage → Bool) (x : AskedMessage) → is_settled x ≡ true → marked_by test x ≡ x
-marked-settled test x e = ap (λ (r : Reply). record x { reply = r }) (given-settled (test (seen x)) x.reply e)
+marked-settled test x e = ap (λ (r : Answer). record x { answer = r }) (given-settled (test (seen x)) x.answer e)
 
-pub marked-answered : (test : KeptMessage → Bool) (x : AskedMessage) → is_unanswered x ≡ false → marked_by test x ≡ x
-marked-answered test x e = ap (λ (r : Reply). record x { reply = r }) (given-other (test (seen x)) x.reply e)
+pub settled_one-twice : (x : AskedMessage) → settled_one (settled_one x) ≡ settled_one x
+settled_one-twice x = ap (λ (r : Answer). record x { answer = r }) (now-twice x.answer)
 
-pub buried-twice : (x : AskedMessage) → buried (buried x) ≡ buried x
-buried-twice x = ap (λ (r : Reply). record x { reply = r }) (now-twice x.reply)
+pub settled_one-free : (x : AskedMessage) → is_given x ≡ false → settled_one x ≡ x
+settled_one-free x e = ap (λ (r : Answer). record x { answer = r }) (now-free x.answer e)
 
-pub buried-free : (x : AskedMessage) → is_given x ≡ false → buried x ≡ x
-buried-free x e = ap (λ (r : Reply). record x { reply = r }) (now-free x.reply e)
-
-pub buried-given : (x : AskedMessage) → is_given (buried x) ≡ false
-buried-given x = now-given x.reply
+pub settled_one-given : (x : AskedMessage) → is_given (settled_one x) ≡ false
+settled_one-given x = now-given x.answer
 
 pub unmarked-twice : (x : AskedMessage) → unmarked (unmarked x) ≡ unmarked x
-unmarked-twice x = ap (λ (r : Reply). record x { reply = r }) (again-twice x.reply)
+unmarked-twice x = ap (λ (r : Answer). record x { answer = r }) (again-twice x.answer)
 
 pub unmarked-free : (x : AskedMessage) → is_given x ≡ false → unmarked x ≡ x
-unmarked-free x e = ap (λ (r : Reply). record x { reply = r }) (again-free x.reply e)
+unmarked-free x e = ap (λ (r : Answer). record x { answer = r }) (again-free x.answer e)
 
 pub unmarked-given : (x : AskedMessage) → is_given (unmarked x) ≡ false
-unmarked-given x = again-given x.reply
+unmarked-given x = again-given x.answer
 
 -- ---- all messages
 
@@ -133,34 +127,34 @@ map-get f [] i y e = let none : ◌≡◌ {A = Option AskedMessage} None (Some y
 map-get f (x ∷ xs) zero y e = (x, refl, same-some (f x) y e)
 map-get f (x ∷ xs) (suc i) y e = map-get f xs i y e
 
-pub replied-map : (change : AskedMessage → Reply → Reply)
-    → ((x : AskedMessage) (r : Reply) → was_settled r ≡ true → was_settled (change x r) ≡ true)
-    → (xs : List AskedMessage) → IsReplied xs (map (λ (x : AskedMessage). replied (change x) x) xs)
-replied-map change stays xs = record {
-  long = length-map xs (λ (x : AskedMessage). replied (change x) x);
-  each = λ i y at. by_item i y (map-get (λ (x : AskedMessage). replied (change x) x) xs i y at);
+pub map-keeps : (change : AskedMessage → Answer → Answer)
+    → ((x : AskedMessage) (r : Answer) → was_settled r ≡ true → was_settled (change x r) ≡ true)
+    → (xs : List AskedMessage) → KeepsChains xs (map (λ (x : AskedMessage). with_answer (change x) x) xs)
+map-keeps change stays xs = record {
+  long = length-map xs (λ (x : AskedMessage). with_answer (change x) x);
+  each = λ i y at. by_item i y (map-get (λ (x : AskedMessage). with_answer (change x) x) xs i y at);
 }
   where
     by_item : (i : ℕ) (y : AskedMessage)
-        → (x : AskedMessage) × (slice_get xs i ≡ Some x) × (replied (change x) x ≡ y)
+        → (x : AskedMessage) × (slice_get xs i ≡ Some x) × (with_answer (change x) x ≡ y)
         → (x : AskedMessage) × (slice_get xs i ≡ Some x) × (y.order_id ≡ x.order_id)
         × (is_settled x ≡ true → is_settled y ≡ true)
     by_item i y was = (
       was.0,
       was.1,
       ap (λ (z : AskedMessage). z.order_id) (sym was.2),
-      λ e. ap is_settled (sym was.2) ∙ stays was.0 was.0.reply e,
+      λ e. ap is_settled (sym was.2) ∙ stays was.0 was.0.answer e,
     )
 
-pub replied-set : (xs : List AskedMessage) (p : ℕ) (x : AskedMessage) (r : Reply) → slice_get xs p ≡ Some x
-    → (was_settled x.reply ≡ true → was_settled r ≡ true) → IsReplied xs (set xs p (record x { reply = r }))
-replied-set xs p x r at stays = record {
-  long = length-set xs p (record x { reply = r });
-  each = λ i y it. by_place i y (get-changed xs p (record x { reply = r }) i y it);
+pub set-keeps : (xs : List AskedMessage) (p : ℕ) (x : AskedMessage) (r : Answer) → slice_get xs p ≡ Some x
+    → (was_settled x.answer ≡ true → was_settled r ≡ true) → KeepsChains xs (set xs p (record x { answer = r }))
+set-keeps xs p x r at stays = record {
+  long = length-set xs p (record x { answer = r });
+  each = λ i y it. by_place i y (get-changed xs p (record x { answer = r }) i y it);
 }
   where
     by_place : (i : ℕ) (y : AskedMessage)
-        → ((p ≢ i) × (slice_get xs i ≡ Some y)) ⊎ ((p ≡ i) × (record x { reply = r } ≡ y))
+        → ((p ≢ i) × (slice_get xs i ≡ Some y)) ⊎ ((p ≡ i) × (record x { answer = r } ≡ y))
         → (z : AskedMessage) × (slice_get xs i ≡ Some z) × (y.order_id ≡ z.order_id)
         × (is_settled z ≡ true → is_settled y ≡ true)
     by_place i y (inl other) = (y, other.1, refl, λ e. e)
@@ -215,7 +209,8 @@ pub walked-begins : (f : AskedMessage → AskedMessage) (n b : ℕ) → IsOfBuck
     → ((i : ℕ) (x : AskedMessage) → slice_get xs i ≡ Some x → x.order_id < 2 ^ 64) → IsWalked f xs xs r
 walked-begins f n b own xs r reach small = record {
   same = refl;
-  fixed = λ i y from at. between f n b own xs r (length xs) reach i y from (slice_get_within xs i y at) at (small i y at);
+  fixed = λ i y from at. between f n b own xs r (length xs) reach i y from (slice_get_within xs i y at) at
+      (small i y at);
 }
 
 pub walked-more : (f : AskedMessage → AskedMessage) (n b : ℕ) → IsOfBucket f n b
@@ -312,7 +307,8 @@ pub noted-more : (places : List ℕ) (p : ℕ) (ys : List AskedMessage) (x : Ask
     → AreNoted (places ++ p ∷ []) (set ys p x)
 noted-more places p ys x noted i y at given = by_place (get-changed ys p x i y at)
   where
-    by_place : ((p ≢ i) × (slice_get ys i ≡ Some y)) ⊎ ((p ≡ i) × (x ≡ y)) → list_any (nat_eq i) (places ++ p ∷ []) ≡ true
+    by_place : ((p ≢ i) × (slice_get ys i ≡ Some y)) ⊎ ((p ≡ i) × (x ≡ y))
+        → list_any (nat_eq i) (places ++ p ∷ []) ≡ true
     by_place (inl old) = among-left (nat_eq i) places (p ∷ []) (noted i y old.1 given)
     by_place (inr same) = subst (λ (j : ℕ). list_any (nat_eq j) (places ++ p ∷ []) ≡ true) same.0
         (among-push p places)
@@ -321,10 +317,11 @@ pub noted-pushed : (places : List ℕ) (xs : List AskedMessage) (x : AskedMessag
     → is_unanswered x ≡ true → AreNoted places (xs ++ x ∷ [])
 noted-pushed places xs x noted awaited i y at given = by_place (get-pushed xs x i y at)
   where
-    by_place : ((i < length xs) × (slice_get xs i ≡ Some y)) ⊎ ((i ≡ length xs) × (x ≡ y)) → list_any (nat_eq i) places ≡ true
+    by_place : ((i < length xs) × (slice_get xs i ≡ Some y)) ⊎ ((i ≡ length xs) × (x ≡ y))
+        → list_any (nat_eq i) places ≡ true
     by_place (inl old) = noted i y old.1 given
     by_place (inr new) =
-        let no : true ≡ false = sym given ∙ ap is_given (sym new.1) ∙ awaits-given x.reply awaited in absurd (cc)
+        let no : true ≡ false = sym given ∙ ap is_given (sym new.1) ∙ awaits-given x.answer awaited in absurd (cc)
 
 get-taken : (n : ℕ) (xs : List AskedMessage) (i : ℕ) (x : AskedMessage) → slice_get (take n xs) i ≡ Some x
     → slice_get xs i ≡ Some x
@@ -352,7 +349,7 @@ all-awaited (x ∷ xs) i y at = by_test (is_unanswered x) refl i at (λ j it. al
 -- where all are awaited, none is noted
 pub noted-awaited : (places : List ℕ) (xs : List AskedMessage) → AreNoted places (filter is_unanswered xs)
 noted-awaited places xs i y at given =
-    let no : true ≡ false = sym given ∙ awaits-given y.reply (all-awaited xs i y at) in absurd (cc)
+    let no : true ≡ false = sym given ∙ awaits-given y.answer (all-awaited xs i y at) in absurd (cc)
 
 -- a change at each place that is noted, and at the end of the list
 pub changed-once : (f : AskedMessage → AskedMessage) → ((x : AskedMessage) → f (f x) ≡ f x)
@@ -373,10 +370,10 @@ noted-free f free places xs i y at given =
     let no : true ≡ false = sym given ∙ ap is_given (sym was.2) ∙ free was.0 in absurd (cc)
 
 -- a mark at a place
-pub replied-marked : (test : KeptMessage → Bool) (ys zs : List AskedMessage) (p : ℕ) → p < length ys
-    → ((d : AskedMessage) → zs ≡ set ys p (marked_by test (get_or ys p d))) → IsReplied ys zs
-replied-marked test ys zs p inside is =
+pub mark-keeps : (test : KeptMessage → Bool) (ys zs : List AskedMessage) (p : ℕ) → p < length ys
+    → ((d : AskedMessage) → zs ≡ set ys p (marked_by test (get_or ys p d))) → KeepsChains ys zs
+mark-keeps test ys zs p inside is =
     let it = get-there ys p inside in
-    subst (IsReplied ys)
+    subst (KeepsChains ys)
     (sym (is it.0 ∙ ap (λ (x : AskedMessage). set ys p (marked_by test x)) (get_or_from_slice_get ys p it.0 it.0 it.1)))
-    (replied-set ys p it.0 (given_if (test (seen it.0)) it.0.reply) it.1 (settled-given (test (seen it.0)) it.0.reply))
+    (set-keeps ys p it.0 (given_if (test (seen it.0)) it.0.answer) it.1 (settled-given (test (seen it.0)) it.0.answer))

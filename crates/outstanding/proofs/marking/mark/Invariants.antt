@@ -4,8 +4,8 @@ use Rattle.outstanding.specs.declared.asked.AskedMessage.{AskedMessage}
 use Rattle.outstanding.specs.Kept.{is_answered_by}
 use Rattle.outstanding.specs.Chaining.{AreNoted, IsChained, bucket}
 use Rattle.outstanding.specs.Marks.{is_unanswered, marked_by}
-use Rattle.outstanding.proofs.Replying.{IsWalked}
-use Rattle.outstanding.proofs.replies.mark.Given as goal
+use Rattle.outstanding.proofs.Answered.{IsWalked}
+use Rattle.outstanding.proofs.marking.mark.Given as goal
 
 -- from the reach on, the messages are marked where they are to be, and before it the chain goes on
 abbrev pub invariant-loop-reach : goal.invariant-loop-reach

@@ -3,10 +3,10 @@ use Rattle.std.specs.Prelude.{vec_len}
 use Rattle.outstanding.specs.Chaining.{IsChained, Reaches, bucket}
 use Rattle.outstanding.specs.Kept.{is_answered_by}
 use Rattle.outstanding.specs.Marks.{marked_by}
-use Rattle.outstanding.proofs.Chaining.{IsReplied, chained-replied, get-there}
-use Rattle.outstanding.proofs.Replying.{IsWalked, replied-marked, walked-all, walked-begins, walked-more}
+use Rattle.outstanding.proofs.Chaining.{KeepsChains, chained-kept, get-there}
+use Rattle.outstanding.proofs.Answered.{IsWalked, mark-keeps, walked-all, walked-begins, walked-more}
 use Rattle.outstanding.proofs.Walking.{answers-own}
-use Rattle.outstanding.proofs.replies.mark.Goals as goal
+use Rattle.outstanding.proofs.marking.mark.Goals as goal
 
 pub loop-reach-init : goal.loop-reach-init
 loop-reach-init c =
@@ -39,24 +39,24 @@ pub next-reach-requires-clause-chained : goal.next-reach-requires-clause-chained
 next-reach-requires-clause-chained c =
     let l = c.loop-reach in
     let test = is_answered_by c.args.port c.args.heard.now c.args.next.now (decimal c.args.order_id) c.args.is_closed in
-    let replies : IsReplied l.messages.items c.mark_at.new.messages.items =
-    replied-marked test l.messages.items c.mark_at.new.messages.items (l.reach - 1)
+    let keeps : KeepsChains l.messages.items c.mark_at.new.messages.items =
+    mark-keeps test l.messages.items c.mark_at.new.messages.items (l.reach - 1)
     (omega (arith, l.invariant.inside, c.loop-reach-test.true)) c.mark_at.ensures.items in
     subst (λ ys. IsChained (vec_len l.chains.heads) l.chains.heads.items l.chains.older.items ys)
     (sym c.deref-in-loop-reach.ensures.value)
-    (chained-replied (vec_len l.chains.heads) l.chains.heads.items l.chains.older.items l.messages.items
-    c.mark_at.new.messages.items replies l.invariant.chained)
+    (chained-kept (vec_len l.chains.heads) l.chains.heads.items l.chains.older.items l.messages.items
+    c.mark_at.new.messages.items keeps l.invariant.chained)
 
 pub next-reach-requires-clause-inside : goal.next-reach-requires-clause-inside
 next-reach-requires-clause-inside c =
     let l = c.loop-reach in
     let test = is_answered_by c.args.port c.args.heard.now c.args.next.now (decimal c.args.order_id) c.args.is_closed in
-    let replies : IsReplied l.messages.items c.mark_at.new.messages.items =
-    replied-marked test l.messages.items c.mark_at.new.messages.items (l.reach - 1)
+    let keeps : KeepsChains l.messages.items c.mark_at.new.messages.items =
+    mark-keeps test l.messages.items c.mark_at.new.messages.items (l.reach - 1)
     (omega (arith, l.invariant.inside, c.loop-reach-test.true)) c.mark_at.ensures.items in
     omega (
       arith,
-      replies.long,
+      keeps.long,
       ap length c.deref-in-loop-reach.ensures.value,
       l.invariant.inside,
       c.loop-reach-test.true,
@@ -74,11 +74,11 @@ loop-reach-preserved c =
     let chains = c.next-reach.new.self in
     let test = is_answered_by c.args.port c.args.heard.now c.args.next.now (decimal c.args.order_id) c.args.is_closed in
     let whole : l.reach ≡ p + 1 = omega (arith, c.loop-reach-test.true) in
-    let replies : IsReplied ys zs =
-    replied-marked test ys zs p (omega (arith, l.invariant.inside, c.loop-reach-test.true)) c.mark_at.ensures.items in
-    let inside : p < length zs = omega (arith, replies.long, l.invariant.inside, c.loop-reach-test.true) in
+    let keeps : KeepsChains ys zs =
+    mark-keeps test ys zs p (omega (arith, l.invariant.inside, c.loop-reach-test.true)) c.mark_at.ensures.items in
+    let inside : p < length zs = omega (arith, keeps.long, l.invariant.inside, c.loop-reach-test.true) in
     let it = get-there zs p inside in
-    let was = replies.each p it.0 it.1 in
+    let was = keeps.each p it.0 it.1 in
     let own : bucket n it.0.order_id ≡ b = ap (bucket n) was.2 ∙ l.invariant.own p was.0 whole was.1 in
     let reach : Reaches n zs b c.next-reach.result p =
     subst (λ d. Reaches n zs d c.next-reach.result p) own
@@ -89,7 +89,7 @@ loop-reach-preserved c =
           (answers-own n c.args.port c.args.heard.now c.args.next.now c.args.order_id c.args.is_closed (omega arith))
           xs ys zs p c.next-reach.result (subst (IsWalked (marked_by test) xs ys) whole l.invariant.walked)
           c.mark_at.ensures.items it.0 reach
-          (chained-replied n l.chains.heads.items l.chains.older.items ys zs replies l.invariant.chained).small;
+          (chained-kept n l.chains.heads.items l.chains.older.items ys zs keeps l.invariant.chained).small;
       inside = omega (arith, c.next-reach.ensures.below, inside);
       own = λ q x e at. subst (λ m. bucket m x.order_id ≡ bucket m c.args.order_id) (sym c.next-reach.ensures.heads)
           (reach.own q x e at);

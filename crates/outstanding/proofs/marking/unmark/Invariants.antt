@@ -2,7 +2,7 @@ use Rattle.std.proofs.Common.{◌≡◌, ◌+◌, ◌≤◌, length, map}
 use Rattle.std.specs.Prelude.{filter, vec_len, vec_capacity}
 use Rattle.outstanding.specs.Chaining.{AreNoted}
 use Rattle.outstanding.specs.Marks.{is_unanswered, unmarked}
-use Rattle.outstanding.proofs.replies.unmark.Given as goal
+use Rattle.outstanding.proofs.marking.unmark.Given as goal
 
 abbrev pub invariant-loop-place : goal.invariant-loop-place
 invariant-loop-place l = record {
