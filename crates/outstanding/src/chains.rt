@@ -3,7 +3,8 @@
 ghost use Rattle.std.specs.Prelude.{◌≡◌, ◌<◌, ◌≤◌, ◌+◌, ◌^◌, ◌++◌, ◌∷◌, [], ℕ, List, Some, length, slice_get};
 ghost use Rattle.std.specs.Prelude.{vec_len, vec_capacity, EachIndex, OnOk, slice_index};
 ghost use Rattle.outstanding.specs.declared.asked.AskedMessage.{AskedMessage};
-ghost use Rattle.outstanding.specs.Chaining.{IsChained, Reaches, bucket};
+ghost use Rattle.outstanding.specs.Chaining.{Reaches, bucket};
+ghost use Rattle.outstanding.specs.Leading.{AreChained};
 ghost use Rattle.outstanding.specs.Marks.{is_settled};
 
 use crate::asked::{Answer, AskedMessage};
@@ -28,8 +29,8 @@ pub(crate) struct Chains {
 impl Chains {
     /// Makes room for so many messages more. `AllocError` leaves the chains as they lead.
     pub fn reserve(&mut self, messages: &[AskedMessage], more: usize) -> Result<(), AllocError>
-        requires chained { IsChained (vec_len self.old.heads) self.old.heads.items self.old.older.items messages.now }
-        ensures chained { IsChained (vec_len self.new.heads) self.new.heads.items self.new.older.items messages.now }
+        requires chained { AreChained self.old messages.now }
+        ensures chained { AreChained self.new messages.now }
         ensures room { OnOk result (vec_len self.new.older + more ≤ vec_capacity self.new.older) }
         ensures heads { OnOk result (0 < more → 0 < vec_len self.new.heads) }
         ensures few { OnOk result (vec_len self.new.older + more < 2 ^ 32) }
@@ -51,7 +52,7 @@ impl Chains {
         requires heads { 0 < length messages.now → 0 < vec_len self.old.heads }
         requires room { length messages.now ≤ vec_capacity self.old.older }
         requires few { length messages.now < 2 ^ 32 }
-        ensures chained { IsChained (vec_len self.new.heads) self.new.heads.items self.new.older.items messages.now }
+        ensures chained { AreChained self.new messages.now }
         ensures heads { vec_len self.new.heads ≡ vec_len self.old.heads }
         ensures room { vec_capacity self.new.older ≡ vec_capacity self.old.older }
     {
@@ -68,8 +69,8 @@ impl Chains {
         requires room { vec_len self.old.older < vec_capacity self.old.older }
         requires few { vec_len self.old.older + 1 < 2 ^ 32 }
         ensures chained { (xs : List AskedMessage) (x : AskedMessage) → x.order_id ≡ order_id
-            → IsChained (vec_len self.old.heads) self.old.heads.items self.old.older.items xs
-            → IsChained (vec_len self.new.heads) self.new.heads.items self.new.older.items (xs ++ x ∷ []) }
+            → AreChained self.old xs
+            → AreChained self.new (xs ++ x ∷ []) }
         ensures heads { vec_len self.new.heads ≡ vec_len self.old.heads }
         ensures room { vec_capacity self.new.older ≡ vec_capacity self.old.older }
         ensures more { vec_len self.new.older ≡ vec_len self.old.older + 1 }
@@ -84,8 +85,8 @@ impl Chains {
         requires heads { 0 < vec_len self.old.heads }
         requires some { 0 < vec_len self.old.older }
         ensures chained { (xs : List AskedMessage) (x : AskedMessage) → x.order_id ≡ order_id
-            → IsChained (vec_len self.old.heads) self.old.heads.items self.old.older.items (xs ++ x ∷ [])
-            → IsChained (vec_len self.new.heads) self.new.heads.items self.new.older.items xs }
+            → AreChained self.old (xs ++ x ∷ [])
+            → AreChained self.new xs }
         ensures heads { vec_len self.new.heads ≡ vec_len self.old.heads }
         ensures room { vec_capacity self.new.older ≡ vec_capacity self.old.older }
     {
@@ -95,8 +96,8 @@ impl Chains {
 
     /// The reach of an order among all messages: where its chain begins. What is settled there is left out from now on.
     pub fn first(&mut self, messages: &[AskedMessage], order_id: u64) -> u32
-        requires chained { IsChained (vec_len self.old.heads) self.old.heads.items self.old.older.items messages.now }
-        ensures chained { IsChained (vec_len self.old.heads) self.new.heads.items self.new.older.items messages.now }
+        requires chained { AreChained self.old messages.now }
+        ensures chained { AreChained self.new messages.now }
         ensures reach { Reaches (vec_len self.old.heads) messages.now (bucket (vec_len self.old.heads) order_id)
             result (length messages.now) }
         ensures heads { vec_len self.new.heads ≡ vec_len self.old.heads }
@@ -114,9 +115,9 @@ impl Chains {
     /// The reach of a message's bucket among those that are older: where its chain goes on. What is settled there is
     /// left out from now on.
     pub fn next(&mut self, messages: &[AskedMessage], place: u32) -> u32
-        requires chained { IsChained (vec_len self.old.heads) self.old.heads.items self.old.older.items messages.now }
+        requires chained { AreChained self.old messages.now }
         requires inside { place < length messages.now }
-        ensures chained { IsChained (vec_len self.old.heads) self.new.heads.items self.new.older.items messages.now }
+        ensures chained { AreChained self.new messages.now }
         ensures reach { (x : AskedMessage) → slice_get messages.now place ≡ Some x
             → Reaches (vec_len self.old.heads) messages.now (bucket (vec_len self.old.heads) x.order_id) result place }
         ensures below { result ≤ place }
@@ -130,7 +131,7 @@ impl Chains {
 
     /// A reach without the settled messages at its end.
     fn past_settled(&self, messages: &[AskedMessage], from: u32) -> u32
-        requires chained { IsChained (vec_len self.now.heads) self.now.heads.items self.now.older.items messages.now }
+        requires chained { AreChained self.now messages.now }
         requires inside { from ≤ length messages.now }
         ensures reach { (b k : ℕ) → Reaches (vec_len self.now.heads) messages.now b from k
             → Reaches (vec_len self.now.heads) messages.now b result k }

@@ -1,9 +1,10 @@
-//! Replies that are given to messages, settled, and taken back.
+//! Marks on messages that are answered.
 
 ghost use Rattle.std.specs.Prelude.{◌≡◌, ◌≢◌, ◌+◌, ◌≤◌, ◌<◌, [], ℕ, false, true, map, filter, decimal, length};
 ghost use Rattle.std.specs.Prelude.{vec_len, vec_capacity, slice_index_or, slice_set};
 ghost use Rattle.outstanding.specs.declared.asked.AskedMessage.{AskedMessage};
-ghost use Rattle.outstanding.specs.Chaining.{AreNoted, IsChained};
+ghost use Rattle.outstanding.specs.Chaining.{AreNoted};
+ghost use Rattle.outstanding.specs.Leading.{AreChained};
 ghost use Rattle.outstanding.specs.Kept.{is_answered_by, seen};
 ghost use Rattle.outstanding.specs.Marks.{settled_one, is_unanswered, marked_by, unmarked};
 
@@ -24,12 +25,12 @@ pub(crate) fn mark(
     is_closed: bool,
     next: &[[u8; 14]],
 )
-    requires chained { IsChained (vec_len chains.old.heads) chains.old.heads.items chains.old.older.items messages.old.items }
+    requires chained { AreChained chains.old messages.old.items }
     requires noted { AreNoted given.old.items messages.old.items }
     requires room { vec_len given.old + length (filter is_unanswered messages.old.items) ≤ vec_capacity given.old }
     ensures items { messages.new.items
         ≡ map (marked_by (is_answered_by port heard.now next.now (decimal order_id) is_closed)) messages.old.items }
-    ensures chained { IsChained (vec_len chains.new.heads) chains.new.heads.items chains.new.older.items messages.new.items }
+    ensures chained { AreChained chains.new messages.new.items }
     ensures noted { AreNoted given.new.items messages.new.items }
     ensures room { vec_len given.new + length (filter is_unanswered messages.new.items)
         ≤ vec_len given.old + length (filter is_unanswered messages.old.items) }

@@ -2,7 +2,8 @@
 
 ghost use Rattle.std.specs.Prelude.{◌≡◌, ◌+◌, ◌≤◌, ◌<◌, ◌^◌, ◌++◌, ◌∷◌, [], map, filter, take, decimal, length};
 ghost use Rattle.std.specs.Prelude.{vec_len, vec_capacity, IfOk};
-ghost use Rattle.outstanding.specs.Chaining.{AreNoted, IsChained};
+ghost use Rattle.outstanding.specs.Chaining.{AreNoted};
+ghost use Rattle.outstanding.specs.Leading.{AreChained};
 ghost use Rattle.outstanding.specs.Kept.{is_answered_by};
 ghost use Rattle.outstanding.specs.Marks.{asked_of, settled_one, is_held, is_unanswered, marked_by, unmarked};
 
@@ -30,7 +31,7 @@ pub(crate) struct Places {
     settled: usize,
     /// For how many more there is room.
     room: usize,
-    ghost chained: { IsChained (vec_len chains.heads) chains.heads.items chains.older.items messages.items },
+    ghost chained: { AreChained chains messages.items },
     ghost noted: { AreNoted given.items messages.items },
     ghost messages_fit: { room + vec_len messages ≤ vec_capacity messages },
     ghost chains_fit: { room + vec_len messages ≤ vec_capacity chains.older },
@@ -174,9 +175,9 @@ impl Places {
 
 /// Takes out all messages but the first so many.
 fn truncate(messages: &mut Vec<AskedMessage>, chains: &mut Chains, count: usize)
-    requires { IsChained (vec_len chains.old.heads) chains.old.heads.items chains.old.older.items messages.old.items }
+    requires { AreChained chains.old messages.old.items }
     ensures items { messages.new.items ≡ take count messages.old.items }
-    ensures chained { IsChained (vec_len chains.new.heads) chains.new.heads.items chains.new.older.items messages.new.items }
+    ensures chained { AreChained chains.new messages.new.items }
     ensures heads { vec_len chains.new.heads ≡ vec_len chains.old.heads }
     ensures chains_fit { vec_capacity chains.new.older ≡ vec_capacity chains.old.older }
     ensures messages_fit { vec_capacity messages.new ≡ vec_capacity messages.old }

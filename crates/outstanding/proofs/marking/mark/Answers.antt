@@ -1,6 +1,7 @@
 use Rattle.std.proofs.Common.{◌≡◌, ◌<◌, ◌+◌, ◌-◌, ◌∙◌, decimal, length, slice_get, sym, ap, subst, refl, arith}
 use Rattle.std.specs.Prelude.{vec_len}
-use Rattle.outstanding.specs.Chaining.{IsChained, Reaches, bucket}
+use Rattle.outstanding.specs.Chaining.{Reaches, bucket}
+use Rattle.outstanding.specs.Leading.{AreChained}
 use Rattle.outstanding.specs.Kept.{is_answered_by}
 use Rattle.outstanding.specs.Marks.{marked_by}
 use Rattle.outstanding.proofs.Chaining.{KeepsChains, chained-kept, get-there}
@@ -16,7 +17,6 @@ loop-reach-init c =
     let test = is_answered_by c.args.port c.args.heard.now c.args.next.now (decimal c.args.order_id) c.args.is_closed in
     let reach : Reaches n xs b c.first-reach.result (length xs) =
     subst (λ ys. Reaches n ys b c.first-reach.result (length ys)) c.deref.ensures.value c.first-reach.ensures.reach in
-    let chains = c.first-reach.new.self in
     record {
       walked = walked-begins (marked_by test) n b
           (answers-own n c.args.port c.args.heard.now c.args.next.now c.args.order_id c.args.is_closed (omega arith))
@@ -24,9 +24,7 @@ loop-reach-init c =
       inside = omega (arith, reach.below);
       own = λ p x e at. subst (λ m. bucket m x.order_id ≡ bucket m c.args.order_id) (sym c.first-reach.ensures.heads)
           (reach.own p x e at);
-      chained = subst (λ m. IsChained m chains.heads.items chains.older.items xs) (sym c.first-reach.ensures.heads)
-          (subst (λ ys. IsChained n chains.heads.items chains.older.items ys) c.deref.ensures.value
-          c.first-reach.ensures.chained);
+      chained = subst (AreChained c.first-reach.new.self) c.deref.ensures.value c.first-reach.ensures.chained;
       noted = c.requires.noted;
       room = omega arith;
       heads = c.first-reach.ensures.heads;
@@ -42,8 +40,7 @@ next-reach-requires-clause-chained c =
     let keeps : KeepsChains l.messages.items c.mark_at.new.messages.items =
     mark-keeps test l.messages.items c.mark_at.new.messages.items (l.reach - 1)
     (omega (arith, l.invariant.inside, c.loop-reach-test.true)) c.mark_at.ensures.items in
-    subst (λ ys. IsChained (vec_len l.chains.heads) l.chains.heads.items l.chains.older.items ys)
-    (sym c.deref-in-loop-reach.ensures.value)
+    subst (AreChained l.chains) (sym c.deref-in-loop-reach.ensures.value)
     (chained-kept (vec_len l.chains.heads) l.chains.heads.items l.chains.older.items l.messages.items
     c.mark_at.new.messages.items keeps l.invariant.chained)
 
@@ -71,7 +68,6 @@ loop-reach-preserved c =
     let zs = c.mark_at.new.messages.items in
     let p = l.reach - 1 in
     let b = bucket n c.args.order_id in
-    let chains = c.next-reach.new.self in
     let test = is_answered_by c.args.port c.args.heard.now c.args.next.now (decimal c.args.order_id) c.args.is_closed in
     let whole : l.reach ≡ p + 1 = omega (arith, c.loop-reach-test.true) in
     let keeps : KeepsChains ys zs =
@@ -93,9 +89,8 @@ loop-reach-preserved c =
       inside = omega (arith, c.next-reach.ensures.below, inside);
       own = λ q x e at. subst (λ m. bucket m x.order_id ≡ bucket m c.args.order_id) (sym c.next-reach.ensures.heads)
           (reach.own q x e at);
-      chained = subst (λ m. IsChained m chains.heads.items chains.older.items zs) (sym c.next-reach.ensures.heads)
-          (subst (λ qs. IsChained n chains.heads.items chains.older.items qs) c.deref-in-loop-reach.ensures.value
-          c.next-reach.ensures.chained);
+      chained = subst (AreChained c.next-reach.new.self) c.deref-in-loop-reach.ensures.value
+          c.next-reach.ensures.chained;
       noted = c.mark_at.ensures.noted;
       room = omega (arith, c.mark_at.ensures.room, l.invariant.room);
       heads = c.next-reach.ensures.heads ∙ l.invariant.heads;

@@ -2,7 +2,8 @@ use Rattle.std.proofs.Common.{◌≡◌, ℕ, ◌+◌, ◌≤◌, length, slice_
 use Rattle.std.specs.Prelude.{Some, filter, vec_len, vec_capacity}
 use Rattle.outstanding.specs.declared.asked.AskedMessage.{AskedMessage}
 use Rattle.outstanding.specs.Kept.{is_answered_by}
-use Rattle.outstanding.specs.Chaining.{AreNoted, IsChained, bucket}
+use Rattle.outstanding.specs.Chaining.{AreNoted, bucket}
+use Rattle.outstanding.specs.Leading.{AreChained}
 use Rattle.outstanding.specs.Marks.{is_unanswered, marked_by}
 use Rattle.outstanding.proofs.Answered.{IsWalked}
 use Rattle.outstanding.proofs.marking.mark.Given as goal
@@ -15,7 +16,7 @@ invariant-loop-reach l = record {
   inside : l.reach ≤ vec_len l.messages;
   own : (p : ℕ) (x : AskedMessage) → l.reach ≡ p + 1 → slice_get l.messages.items p ≡ Some x
       → bucket (vec_len l.chains.heads) x.order_id ≡ bucket (vec_len l.chains.heads) l.order_id;
-  chained : IsChained (vec_len l.chains.heads) l.chains.heads.items l.chains.older.items l.messages.items;
+  chained : AreChained l.chains l.messages.items;
   noted : AreNoted l.given.items l.messages.items;
   room : vec_len l.given + length (filter is_unanswered l.messages.items)
       ≤ vec_len l.fn.given + length (filter is_unanswered l.fn.messages.items);

@@ -1,7 +1,8 @@
 use Rattle.std.proofs.Common.{◌≡◌, ◌∙◌, length, sym, ap, subst, arith, rules}
-use Rattle.std.specs.Prelude.{filter, vec_len}
+use Rattle.std.specs.Prelude.{filter}
 use Rattle.std.proofs.lemmas.Fn.{filter_same}
-use Rattle.outstanding.specs.Chaining.{AreNoted, IsChained, Placed}
+use Rattle.outstanding.specs.Chaining.{AreNoted, Placed}
+use Rattle.outstanding.specs.Leading.{AreChained}
 use Rattle.outstanding.specs.Marks.{is_unanswered}
 use Rattle.outstanding.proofs.Marks.{unanswered-twice}
 use Rattle.outstanding.proofs.Answered.{noted-awaited}
@@ -13,7 +14,7 @@ invariant_of-self-inside c =
     let chains = c.relink.new.self in
     let left : c.retain.new.self.items ≡ filter is_unanswered p.messages.items =
     filter_same _ is_unanswered _ (λ x b f k. search rules) _ _ c.retain.ensures.filtered in (
-      subst (λ xs. IsChained (vec_len chains.heads) chains.heads.items chains.older.items xs) c.deref.ensures.value
+      subst (AreChained chains) c.deref.ensures.value
           c.relink.ensures.chained,
       (
         subst (AreNoted p.given.items) (sym left) (noted-awaited p.given.items p.messages.items),

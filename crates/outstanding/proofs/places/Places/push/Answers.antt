@@ -1,9 +1,10 @@
 use Rattle.std.proofs.Common.{◌≡◌, ◌∙◌, ◌+◌, ◌∷◌, [], length, refl, sym, ap, subst, arith}
-use Rattle.std.specs.Prelude.{filter, vec_len}
+use Rattle.std.specs.Prelude.{filter}
 use Rattle.std.proofs.lemmas.List.{length_push}
 use Rattle.std.proofs.lemmas.List.Elements.{filter-append}
 use Rattle.outstanding.specs.declared.asked.AskedMessage.{AskedMessage}
-use Rattle.outstanding.specs.Chaining.{AreNoted, IsChained, Placed}
+use Rattle.outstanding.specs.Chaining.{AreNoted, Placed}
+use Rattle.outstanding.specs.Leading.{AreChained}
 use Rattle.outstanding.specs.Marks.{asked_of, is_unanswered}
 use Rattle.outstanding.proofs.Answered.{noted-pushed}
 use Rattle.outstanding.proofs.places.Places.push.Goals as goal
@@ -19,7 +20,7 @@ invariant_of-self-inside c =
     ap (λ xs. length (filter is_unanswered xs)) c.push_reserved.ensures.items
     ∙ ap length (filter-append is_unanswered p.messages.items (x ∷ []))
     ∙ length_push (filter is_unanswered p.messages.items) x in (
-      subst (λ xs. IsChained (vec_len chains.heads) chains.heads.items chains.older.items xs)
+      subst (AreChained chains)
           (sym c.push_reserved.ensures.items) (c.link.ensures.chained p.messages.items x refl p.chained),
       (
         subst (AreNoted p.given.items) (sym c.push_reserved.ensures.items)

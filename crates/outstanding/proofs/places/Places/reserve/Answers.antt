@@ -1,6 +1,6 @@
 use Rattle.std.proofs.Common.{length, sym, ap, subst, arith}
-use Rattle.std.specs.Prelude.{vec_len}
-use Rattle.outstanding.specs.Chaining.{AreNoted, IsChained}
+use Rattle.outstanding.specs.Chaining.{AreNoted}
+use Rattle.outstanding.specs.Leading.{AreChained}
 use Rattle.outstanding.specs.Marks.{is_unanswered}
 use Rattle.outstanding.proofs.Marks.{count-all}
 use Rattle.outstanding.proofs.places.Places.reserve.Goals as goal
@@ -10,7 +10,7 @@ invariant_of-self-inside-2 c =
     let p = c.self.inside in
     let chains = c.reserve-2.new.self in
     let messages = c.reserve.new.self in (
-      subst (λ xs. IsChained (vec_len chains.heads) chains.heads.items chains.older.items xs) c.deref.ensures.value
+      subst (AreChained chains) c.deref.ensures.value
           c.reserve-2.ensures.chained,
       (
         subst (λ ps. AreNoted ps messages.items) (sym c.reserve-3.ensures.items)

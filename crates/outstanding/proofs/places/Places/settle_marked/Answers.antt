@@ -1,7 +1,8 @@
 use Rattle.std.proofs.Common.{◌≡◌, length, map, sym, ap, subst, arith}
 use Rattle.std.specs.Prelude.{filter, vec_len}
 use Rattle.std.proofs.lemmas.List.{length-map}
-use Rattle.outstanding.specs.Chaining.{AreNoted, IsChained}
+use Rattle.outstanding.specs.Chaining.{AreNoted}
+use Rattle.outstanding.specs.Leading.{AreChained}
 use Rattle.outstanding.specs.Marks.{settled_now, settled_one, is_unanswered}
 use Rattle.outstanding.proofs.Chaining.{chained-kept}
 use Rattle.outstanding.proofs.Marks.{unanswered-settled_one}
@@ -15,7 +16,7 @@ invariant_of-self-inside c =
     let n = vec_len p.chains.heads in
     let same : vec_len c.settle_marked.new.messages ≡ vec_len p.messages =
     omega (arith, ap length c.settle_marked.ensures.items, length-map xs settled_one) in (
-      subst (λ ys. IsChained n p.chains.heads.items p.chains.older.items ys) (sym c.settle_marked.ensures.items)
+      subst (AreChained p.chains) (sym c.settle_marked.ensures.items)
           (chained-kept n p.chains.heads.items p.chains.older.items xs (map settled_one xs)
           (map-keeps (λ x. settled_now) (λ x r e. settled-now r e) xs) p.chained),
       (

@@ -1,7 +1,8 @@
 use Rattle.std.proofs.Common.{◌≡◌, length, map, sym, ap, subst, arith}
 use Rattle.std.specs.Prelude.{vec_len}
 use Rattle.std.proofs.lemmas.List.{length-map}
-use Rattle.outstanding.specs.Chaining.{AreNoted, IsChained}
+use Rattle.outstanding.specs.Chaining.{AreNoted}
+use Rattle.outstanding.specs.Leading.{AreChained}
 use Rattle.outstanding.specs.Marks.{awaited_again, unmarked}
 use Rattle.outstanding.proofs.Chaining.{chained-kept}
 use Rattle.outstanding.proofs.Answered.{unmarked-given, noted-free, map-keeps, settled-again}
@@ -14,7 +15,7 @@ invariant_of-self-inside c =
     let n = vec_len p.chains.heads in
     let same : vec_len c.unmark.new.messages ≡ vec_len p.messages =
     omega (arith, ap length c.unmark.ensures.items, length-map xs unmarked) in (
-      subst (λ ys. IsChained n p.chains.heads.items p.chains.older.items ys) (sym c.unmark.ensures.items)
+      subst (AreChained p.chains) (sym c.unmark.ensures.items)
           (chained-kept n p.chains.heads.items p.chains.older.items xs (map unmarked xs)
           (map-keeps (λ x. awaited_again) (λ x r e. settled-again r e) xs) p.chained),
       (
