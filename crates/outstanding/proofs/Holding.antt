@@ -5,7 +5,7 @@ use Rattle.std.specs.Prelude.{◌==◌, ◌&&◌, ◌||◌}
 use Rattle.order_law.specs.ouch_codec.declared.outbound.Outbound.{Outbound}
 use Rattle.order_law.specs.History.{Said, answers}
 use Rattle.order_machine.proofs.Texts.{decimal-same, eq-other, eq-true}
-use Rattle.outstanding.specs.declared.messages.AskedMessage.{AskedMessage}
+use Rattle.outstanding.specs.declared.asked.AskedMessage.{AskedMessage}
 use Rattle.outstanding.specs.Kept.{is_answered_by, asked_by_fields, seen}
 use Rattle.outstanding.proofs.Saying.{said_in-written}
 

@@ -305,7 +305,8 @@ market-turns terms before s short leaves kept
       unanswered_by port m (replacements order.replaces) now asked,
       told-same terms before s short leaves t new port m is_e leads now (replacements order.replaces)
           (next-of terms before s short leaves t new port m is_e leads token order now found same_new)
-          (home-of terms before s short leaves t new port m is_e leads token order now found same_new) no_fault is_put asked
+          (home-of terms before s short leaves t new port m is_e leads token order now found same_new) no_fault is_put
+          asked
           same,
       stands terms before s short leaves t new port (Ok m) is_e leads
           (unanswered_by port m (replacements order.replaces) now asked)

@@ -8,7 +8,7 @@ use Rattle.order_law.specs.ouch_codec.declared.outbound.Outbound.{Outbound}
 use Rattle.order_law.specs.ouch_codec.ToMarket as said
 use Rattle.order_law.specs.Headline.{has_type}
 use Rattle.order_law.specs.History.{Said, SaysNew, SaysReplace, SaysCancel, answers}
-use Rattle.outstanding.specs.declared.messages.AskedMessage.{AskedMessage}
+use Rattle.outstanding.specs.declared.asked.AskedMessage.{AskedMessage}
 
 -- one message that a port was asked
 pub record KeptMessage : Type 0 where

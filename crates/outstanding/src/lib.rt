@@ -10,6 +10,10 @@
 #![tactic(auto)]
 
 mod answering;
+mod asked;
+mod chains;
+mod marking;
 mod messages;
+mod places;
 
 pub use messages::AskedMessages;

@@ -1,63 +1,48 @@
 //! The list of outstanding messages.
 
-ghost use Rattle.std.specs.Prelude.{◌≡◌, ◌+◌, ◌≤◌, ◌<◌, ◌++◌, [], false, map, filter, decimal, length};
-ghost use Rattle.std.specs.Prelude.{vec_len, vec_capacity, IfOk, OnErr};
+ghost use Rattle.std.specs.Prelude.{◌≡◌, ◌+◌, ◌≤◌, ◌++◌, [], map, take, decimal, length};
+ghost use Rattle.std.specs.Prelude.{IfOk, OnErr};
 ghost use Rattle.order_law.specs.ouch_codec.Inbound.{inbound_bytes};
-ghost use Rattle.outstanding.specs.Kept.{bytes_on, is_answered_by, kept_from, left_by, seen};
-ghost use Rattle.outstanding.specs.Marks.{asked_of, is_unanswered, marked_by, unanswered, unmarked};
+ghost use Rattle.outstanding.specs.Kept.{bytes_on, kept_from, left_by};
+ghost use Rattle.outstanding.specs.Marks.{asked_of, unanswered};
 
-use crate::answering::answers;
+use crate::asked::AskedMessage;
+use crate::marking::is_unanswered;
+use crate::places::Places;
 use order_law::{Inbound, Outbound};
 use std::alloc::{AllocError, Global};
 use std::marker::Model;
 
-/// A message that a port was asked.
-#[derive(Clone, Copy)]
-pub struct AskedMessage {
-    /// The number of its port, from 1.
-    pub port: u16,
-    /// OrderID (37) of its order.
-    pub order_id: u64,
-    /// What the port was sent, or is to be sent.
-    pub message: Inbound,
-    /// It was answered since the messages were settled.
-    pub is_answered: bool,
-}
-
 /// What the ports were asked and haven't answered, the oldest first. Contracts see it as it is now and as it was
 /// settled: `undo` puts back what was there at the last `settle`, and no messages where there was none.
 pub struct AskedMessages {
-    messages: Vec<AskedMessage>,
+    places: Places,
     /// How many there were when they were settled.
     count: usize,
-    /// Some may be answered since.
-    has_answered: bool,
-    ghost within: { count ≤ length messages.items },
-    ghost none_answered: { has_answered ≡ false → filter is_unanswered messages.items ≡ messages.items },
+    ghost within: { count ≤ length places.items },
 }
 
 // Not derived: then each way out drops it in one call (docs/DECISIONS.md, "Drops").
 impl Drop for AskedMessages {
     fn drop(self) {
         let AskedMessages {
-            messages: _,
+            places: _,
             count: _,
-            has_answered: _,
         } = self;
     }
 }
 
 impl Model for AskedMessages {
-    ghost use Rattle.std.specs.Prelude.{◌-◌, map, take, vec_len, vec_capacity};
+    ghost use Rattle.std.specs.Prelude.{take};
     ghost use Rattle.outstanding.specs.Kept as kept;
-    ghost use Rattle.outstanding.specs.Marks.{unanswered};
+    ghost use Rattle.outstanding.specs.Marks.{held, unanswered};
 
     ghost Value = { kept.HeldMessages };
 
     ghost view = { λ a. record {
-      messages = unanswered a.messages.items;
-      settled = map kept.seen (take a.count a.messages.items);
-      room = vec_capacity a.messages - vec_len a.messages;
+      messages = unanswered a.places.items;
+      settled = held (take a.count a.places.items);
+      room = a.places.room;
     } };
 }
 
@@ -68,9 +53,8 @@ impl AskedMessages {
         ensures settled { result.settled ≡ [] }
     {
         AskedMessages {
-            messages: Vec::new(alloc),
+            places: Places::new(alloc),
             count: 0,
-            has_answered: false,
         }
     }
 
@@ -80,7 +64,7 @@ impl AskedMessages {
         ensures same { self.new.messages ≡ self.old.messages }
         ensures settled { self.new.settled ≡ self.old.settled }
     {
-        self.messages.reserve(more)
+        self.places.reserve(more)
     }
 
     /// Adds messages that a port is asked of an order, behind the others. `AllocError` leaves the list as it was.
@@ -101,7 +85,7 @@ impl AskedMessages {
         ensures pushed { self.new.messages ≡ self.old.messages ++ kept_from port (decimal order_id) messages.now }
         ensures settled { self.new.settled ≡ self.old.settled }
     {
-        push_each(&mut self.messages, port, order_id, messages);
+        push_each(&mut self.places, port, order_id, messages);
     }
 
     /// A message from the market was handled on a port, on the order with this OrderID, which is closed now or not:
@@ -121,8 +105,7 @@ impl AskedMessages {
         ensures left { self.new.messages ≡ left_by port heard.now next.now (decimal order_id) is_closed self.old.messages }
         ensures settled { self.new.settled ≡ self.old.settled }
     {
-        self.has_answered = true;
-        mark(&mut self.messages, port, heard, order_id, is_closed, next);
+        self.places.answer(port, heard, order_id, is_closed, next);
     }
 
     /// From now on the messages are put back to those of now. Takes no memory.
@@ -130,11 +113,8 @@ impl AskedMessages {
         ensures messages { self.new.messages ≡ self.old.messages }
         ensures settled { self.new.settled ≡ self.old.messages }
     {
-        if self.has_answered {
-            drop_answered(&mut self.messages);
-        }
-        self.has_answered = false;
-        self.count = self.messages.len();
+        self.places.settle();
+        self.count = self.places.as_slice().len();
     }
 
     /// Puts the messages back to those that were settled. Takes no memory.
@@ -142,9 +122,8 @@ impl AskedMessages {
         ensures messages { self.new.messages ≡ self.old.settled }
         ensures settled { self.new.settled ≡ self.old.settled }
     {
-        self.messages.truncate(self.count);
-        unmark(&mut self.messages);
-        self.has_answered = false;
+        self.places.unmark();
+        self.places.truncate(self.count);
     }
 
     /// Copies of a port's own messages, in the order in which it was asked them.
@@ -153,101 +132,18 @@ impl AskedMessages {
     pub fn on_port(&self, alloc: Global, port: u16) -> Result<Vec<Inbound>, AllocError>
         ensures { IfOk result (λ messages. map inbound_bytes messages.items ≡ bytes_on port self.now.messages) }
     {
-        copies_on(alloc, &self.messages, port)
+        copies_on(alloc, self.places.as_slice(), port)
     }
 }
 
 /// Puts messages of one order behind the others, where there is room.
-fn push_each(kept: &mut Vec<AskedMessage>, port: u16, order_id: u64, messages: &[Inbound])
-    requires { vec_len kept.old + length messages.now ≤ vec_capacity kept.old }
-    ensures { kept.new.items ≡ kept.old.items ++ map (asked_of port order_id) messages.now }
+fn push_each(places: &mut Places, port: u16, order_id: u64, messages: &[Inbound])
+    requires { length messages.now ≤ places.old.room }
+    ensures { places.new.items ≡ places.old.items ++ map (asked_of port order_id) messages.now }
 {
     for message in messages {
-        kept.push_reserved(AskedMessage {
-            port,
-            order_id,
-            message: *message,
-            is_answered: false,
-        });
+        places.push(port, order_id, message);
     }
-}
-
-/// Marks those that a message from the market on a port answers, or whose order it closes.
-fn mark(
-    messages: &mut Vec<AskedMessage>,
-    port: u16,
-    heard: &Outbound,
-    order_id: u64,
-    is_closed: bool,
-    next: &[[u8; 14]],
-)
-    ensures { messages.new.items
-        ≡ map (marked_by (is_answered_by port heard.now next.now (decimal order_id) is_closed)) messages.old.items }
-{
-    for asked in messages.iter_mut() {
-        mark_one(asked, port, heard, order_id, is_closed, next);
-    }
-}
-
-/// Marks one that it answers, or whose order it closes.
-fn mark_one(
-    asked: &mut AskedMessage,
-    port: u16,
-    heard: &Outbound,
-    order_id: u64,
-    is_closed: bool,
-    next: &[[u8; 14]],
-)
-    ensures { asked.new ≡ marked_by (is_answered_by port heard.now next.now (decimal order_id) is_closed) asked.old }
-{
-    asked.is_answered = asked.is_answered
-        || is_answered(asked, port, heard, order_id, is_closed, next);
-}
-
-/// Marks none.
-fn unmark(messages: &mut Vec<AskedMessage>)
-    ensures { messages.new.items ≡ map unmarked messages.old.items }
-{
-    for asked in messages.iter_mut() {
-        unmark_one(asked);
-    }
-}
-
-/// Takes the mark away.
-fn unmark_one(asked: &mut AskedMessage)
-    ensures { asked.new ≡ unmarked asked.old }
-{
-    asked.is_answered = false;
-}
-
-/// Takes out those that are answered.
-fn drop_answered(messages: &mut Vec<AskedMessage>)
-    ensures { messages.new.items ≡ filter is_unanswered messages.old.items }
-{
-    messages.retain(|asked| is_unanswered(asked));
-}
-
-/// Whether it isn't answered.
-fn is_unanswered(asked: &AskedMessage) -> bool
-    ensures { result ≡ is_unanswered asked.now }
-{
-    !asked.is_answered
-}
-
-/// Whether a message from the market on a port answers one that is kept, or closes its order: the order is looked at
-/// before any token.
-fn is_answered(
-    asked: &AskedMessage,
-    port: u16,
-    heard: &Outbound,
-    order_id: u64,
-    is_closed: bool,
-    next: &[[u8; 14]],
-) -> bool
-    ensures { result ≡ is_answered_by port heard.now next.now (decimal order_id) is_closed (seen asked.now) }
-{
-    asked.port == port
-        && (asked.order_id == order_id && (answers(heard, next, &asked.message) || is_closed))
 }
 
 /// Copies of the messages of one port that aren't answered, in order.

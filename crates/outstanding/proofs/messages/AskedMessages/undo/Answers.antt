@@ -1,27 +1,19 @@
-use Rattle.std.proofs.Common.{rules, List, map, take, ap, ◌∙◌, arith}
-use Rattle.std.proofs.lemmas.List.{length-map, take-take}
-use Rattle.outstanding.specs.declared.messages.AskedMessage.{AskedMessage}
-use Rattle.outstanding.specs.Kept.{HeldMessages, seen}
-use Rattle.outstanding.specs.Marks.{unanswered}
-use Rattle.outstanding.proofs.Marks.{none-marked, unmarked-all, unmarked-seen}
+use Rattle.std.proofs.Common.{List, take, ap, ◌∙◌}
+use Rattle.outstanding.specs.declared.asked.AskedMessage.{AskedMessage}
+use Rattle.outstanding.specs.Kept.{HeldMessages}
+use Rattle.outstanding.specs.Marks.{held, unanswered}
+use Rattle.outstanding.proofs.Marks.{unmarked-held, unmarked-unanswered}
 use Rattle.outstanding.proofs.messages.AskedMessages.undo.Goals as goal
-
-pub invariant_of-self-inside : goal.invariant_of-self-inside
-invariant_of-self-inside c = (
-  rw (c.unmark.ensures, length-map, c.truncate.ensures.items) (search rules),
-  (λ none. rw c.unmark.ensures (none-marked c.truncate.new.self.items), tt),
-)
 
 pub returns-clause-messages : goal.returns-clause-messages
 returns-clause-messages c =
-    ap unanswered c.unmark.ensures ∙ unmarked-all c.truncate.new.self.items
-    ∙ ap (map seen) c.truncate.ensures.items
+    ap unanswered (c.truncate.ensures ∙ ap (take c.self.inside.count) c.unmark.ensures)
+    ∙ unmarked-unanswered c.self.inside.count c.self.inside.places.items
     ∙ ap (λ (h : HeldMessages). h.settled) c.self.view_is
 
 pub returns-clause-settled : goal.returns-clause-settled
 returns-clause-settled c =
-    ap (λ (qs : List AskedMessage). map seen (take c.self.inside.count qs)) c.unmark.ensures
-    ∙ unmarked-seen c.self.inside.count c.truncate.new.self.items
-    ∙ ap (λ (qs : List AskedMessage). map seen (take c.self.inside.count qs)) c.truncate.ensures.items
-    ∙ ap (map seen) (take-take c.self.inside.count c.self.inside.count c.self.inside.messages.items (omega arith))
+    ap (λ (qs : List AskedMessage). held (take c.self.inside.count qs))
+    (c.truncate.ensures ∙ ap (take c.self.inside.count) c.unmark.ensures)
+    ∙ unmarked-held c.self.inside.count c.self.inside.places.items
     ∙ ap (λ (h : HeldMessages). h.settled) c.self.view_is

@@ -3,7 +3,7 @@ use Rattle.std.specs.Prelude.{◌==◌}
 use Rattle.order_law.specs.History.{answers}
 use Rattle.outstanding.specs.Kept.{asked_by_fields}
 use Rattle.outstanding.proofs.Holding.{answered-by_fields, is-answer, is-closing, is-other}
-use Rattle.outstanding.proofs.messages.is_answered.Goals as goal
+use Rattle.outstanding.proofs.marking.is_answered.Goals as goal
 
 pub returns-then-answers : goal.returns-then-answers
 returns-then-answers c =
