@@ -54,6 +54,13 @@ pub(crate) fn end_value(alloc: Global, ends: Option<u64>) -> Result<Value, Alloc
     }
 }
 
+/// A number that may be larger than 64 bits hold, as a text of its digits: a number of JSON would be read as a float.
+pub(crate) fn digits_value(alloc: Global, number: u128) -> Result<Value, AllocError>
+    ensures { IfOk result (λ v. view v ≡ spec.digits_data number) }
+{
+    Ok(Value::String(format!(in alloc; "{number}")?))
+}
+
 /// The number of a link, where there is one.
 pub(crate) fn link_value(link: Option<u64>) -> Value
     ensures { view result ≡ spec.link_data link }
