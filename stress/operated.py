@@ -6,6 +6,7 @@ import subprocess
 import time
 
 from .compare import account, audited
+from .fix import worth
 
 FAULTS = {b"1": "a packet or payload that can't be read", b"2": "a token that no order of this port has",
           b"3": "a message that its order doesn't allow", b"4": "a message outside the profile",
@@ -61,12 +62,18 @@ def compare_shown(now, clients, markets, wanted, output, told, rows):
     exported = {}
     for (client, _), order in orders_of(rows).items():
         exported[client] = exported.get(client, 0) + order.is_open()
+    executed = {"the markets": executed_at(clients, markets), "the audit": executed_by_audit(output),
+                "the journal": executed_by_journal(rows)}
     for number, (client, row) in enumerate(zip(clients, status["clients"], strict=True), 1):
         opens = sum(not it.closed for it in client["orders"].values())
         yield from differs(f"client {number}", row, client_row(number, client, opens))
         for what, count in (("the audit with the last lines", still_open), ("the journal", exported)):
             if count.get(number, 0) != row["open_orders"]:
                 yield f"client {number} has {row['open_orders']} open orders, by {what} {count.get(number, 0)}"
+        shown = int(row["executed_shares"]), int(row["value"])
+        for what, sums in executed.items():
+            if sums.get(number, (0, 0)) != shown:
+                yield f"client {number} has executed {shown}, by {what} {sums.get(number, (0, 0))}"
     for number, (market, state, row) in enumerate(zip(markets, wanted, status["ports"], strict=True), 1):
         yield from differs(f"port {number}", row, port_row(number, market, state))
     yield from compare_metrics(status, samples(metrics)[1])
@@ -74,8 +81,37 @@ def compare_shown(now, clients, markets, wanted, output, told, rows):
 
 def client_row(number, client, opens):
     """A client that has left: no link, all that it sent was handled, and all that it was sent it has."""
+    shares, value = summed((number, it.executed, it.value) for it in client["orders"].values()).get(number, (0, 0))
     return {"client": f"C{number}", "name": f"C{number}", "link": None, "logged_on": False, "open_orders": opens,
-            "next_in": client["next_out"], "next_out": client["expected"]}
+            "executed_shares": str(shares), "value": str(value), "next_in": client["next_out"],
+            "next_out": client["expected"]}
+
+
+# What was executed: shares and their value in 1/10,000, by client.
+
+def summed(orders):
+    """The sums of each client, of the client, shares and value of each order."""
+    sums = {}
+    for client, shares, value in orders:
+        before = sums.get(client, (0, 0))
+        sums[client] = before[0] + shares, before[1] + value
+    return sums
+
+
+def executed_at(clients, markets):
+    """By the markets' books; each order has a symbol of its own."""
+    owner = {order.symbol: order.client for client in clients for order in client["orders"].values()}
+    entered = [(stock.rstrip(), it) for market in markets for stock, it in market["orders"].items()]
+    return summed((owner.get(symbol), it.executed, it.value) for symbol, it in entered)
+
+
+def executed_by_audit(output):
+    return summed((client, shares, value)
+                  for (client, _), (_, shares, _, _, value, _) in audited(output)[0].items())
+
+
+def executed_by_journal(rows):
+    return summed((client, it.executed, it.value) for (client, _), it in orders_of(rows).items())
 
 
 def port_row(number, market, state):
@@ -98,7 +134,8 @@ def compare_metrics(status, found):
     """Each number of the status is the same in the metrics."""
     for row in status["clients"]:
         numbers = {"client_up": row["logged_on"], "open_orders": row["open_orders"], "client_next_in": row["next_in"],
-                   "client_next_out": row["next_out"]}
+                   "client_next_out": row["next_out"], "executed_shares": int(row["executed_shares"]),
+                   "executed_value": int(row["value"])}
         yield from ((f"metrics have {found.get((f'gateway_{name}', row['name']))} as {name} of {row['name']}, "
                      f"the status {value}") for name, value in numbers.items()
                     if found.get((f"gateway_{name}", row["name"])) != value)
@@ -153,12 +190,19 @@ class Told:
 
     def __init__(self):
         self.is_answered = False
-        self.executed = self.left = 0
+        self.executed = self.left = self.value = 0
+        self.trades = {}
 
-    def take(self, row):
+    def take(self, row, match):
+        """A report, and the match number of what came before it: a broken trade's report doesn't name the trade."""
         kind = row["150"]
         self.is_answered = self.is_answered or kind not in PENDING
         self.executed, self.left = int(row["14"]), int(row["151"])
+        if kind == "F":
+            self.trades[match] = int(row["32"]) * int(worth(row["31"].encode()) * 10_000)
+            self.value += self.trades[match]
+        elif kind == "H":
+            self.value -= self.trades.pop(match)
 
     def is_open(self):
         return not self.is_answered or self.left > 0
@@ -175,14 +219,16 @@ def journal_rows(gateway, journal):
 
 def orders_of(rows):
     """The accepted orders of the journal's reports, by client and OrderID."""
-    orders = {}
+    orders, match = {}, None
     for row in rows:
-        if row["way"] == "out" and row.get("35") == "8":
+        if row["way"] == "in":
+            match = row.get("match")
+        elif row.get("35") == "8":
             key = int(row["who"][1:]), int(row["37"])
             if row["150"] == "A":
                 orders[key] = Told()
             if key in orders:
-                orders[key].take(row)
+                orders[key].take(row, match)
     return orders
 
 

@@ -360,6 +360,10 @@ class Day:
                   ("gateway_client_next_out", "BANK"): one["next_out"],
                   ("gateway_open_orders", "BANK"): one["open_orders"],
                   ("gateway_open_orders", "FUND"): two["open_orders"],
+                  ("gateway_executed_shares", "BANK"): int(one["executed_shares"]),
+                  ("gateway_executed_value", "BANK"): int(one["value"]),
+                  ("gateway_executed_shares", "FUND"): int(two["executed_shares"]),
+                  ("gateway_executed_value", "FUND"): int(two["value"]),
                   ("gateway_port_up", status["ports"][0]["address"]): 1,
                   ("gateway_port_faulted", status["ports"][0]["address"]): 0,
                   ("gateway_port_next", status["ports"][0]["address"]): status["ports"][0]["next"]}
@@ -474,6 +478,8 @@ class Day:
         self.is_so("an order is open at the market", self.bank.told(b"OPEN", b"0") is not None)
         status = self.status_where(lambda it: it["clients"][0]["open_orders"] == 1)
         self.is_so("status.json has it as open", [client["open_orders"] for client in status["clients"]] == [1, 0])
+        executed = [(client["executed_shares"], client["value"]) for client in status["clients"]]
+        self.is_so("status.json has what was executed", executed == [("500", "115000000"), ("0", "0")])
         begin = time.monotonic()
         ran = self.end()
         spent = time.monotonic() - begin

@@ -9,7 +9,6 @@ use Rattle.session_law.specs.Table.{is_logged_on}
 use Rattle.soup_session.specs.Calls.{CallsLeave}
 use Rattle.soup_session.specs.declared.machine.Port.{Port}
 use Rattle.gate_sessions.specs.order_law.History.{OrderHistory, issued}
-use Rattle.gate_sessions.specs.order_law.Verdicts.{open_orders}
 use Rattle.gate_law.specs.Settings.{Settings}
 use Rattle.gate_law.specs.Events.{History}
 use Rattle.gate_law.specs.Lists.{Lists}
@@ -26,7 +25,7 @@ use Rattle.gate_core.proofs.Standing.{each-seen}
 
 client-row : (s : Settings) (v : Lists) (n : ℕ) (line : ClientLine)
     → ClientLeaves s n (v.client_calls n) line.session.session
-    → line.link ≡ v.client_link n → IsClientRow s v n (client_row_of (open_orders (issued n v.turns)) line)
+    → line.link ≡ v.client_link n → IsClientRow s v n (client_row_of (issued n v.turns) line)
 unfolding ClientLeaves
 client-row s v n line leaves link = record {
   link = link;
@@ -34,6 +33,8 @@ client-row s v n line leaves link = record {
   incoming = ap (λ (x : State). x.expected) leaves;
   outgoing = ap next_out leaves;
   orders = refl;
+  executed = refl;
+  value = refl;
 }
 
 -- ---- rows with one more, of the next line
@@ -49,13 +50,13 @@ added P (z ∷ zs) x each last (suc i) y at = added (λ j. P (suc j)) zs x (λ j
 pub row-added : (turns : OrderHistory) (lines : List ClientLine) (n : ℕ) (line : ClientLine) (rows : List ClientRow)
     (row : ClientRow)
     → n < length lines → line ≡ get_or lines n line → length rows ≡ n → AreRowsOf turns lines rows
-    → row ≡ client_row_of (open_orders (issued (n + 1) turns)) line → AreRowsOf turns lines (rows ++ row ∷ [])
+    → row ≡ client_row_of (issued (n + 1) turns) line → AreRowsOf turns lines (rows ++ row ∷ [])
 row-added turns lines n line rows row inside is count each own =
     let at : slice_get lines n ≡ Some line = slice_get_read lines (length lines) n line refl inside is in
     added (λ i r. (l : ClientLine) × (slice_get lines i ≡ Some l)
-    × (r ≡ client_row_of (open_orders (issued (i + 1) turns)) l)) rows row each
+    × (r ≡ client_row_of (issued (i + 1) turns) l)) rows row each
     (subst (λ (k : ℕ). (l : ClientLine) × (slice_get lines k ≡ Some l)
-    × (row ≡ client_row_of (open_orders (issued (k + 1) turns)) l)) (sym count) (line, at, own))
+    × (row ≡ client_row_of (issued (k + 1) turns) l)) (sym count) (line, at, own))
 
 port-row : (s : Settings) (v : Lists) (p : ℕ) (line : PortLine) → PortLeaves s p (v.port_calls p) line.session.port
     → line.link ≡ v.port_link p → IsPortRow s v p (port_row_of line)

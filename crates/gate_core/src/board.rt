@@ -15,6 +15,11 @@ pub struct ClientRow {
     pub next_out: u64,
     /// How many of its orders aren't closed, by its own reports (OrdStatus, 39).
     pub open_orders: usize,
+    /// What was executed of all of its orders, in shares (CumQty, 14, of each in sum): without the trades that were
+    /// broken.
+    pub executed_shares: u128,
+    /// What those shares were traded for: shares times price of the trades that stand, in 1/10,000.
+    pub value: u128,
 }
 
 /// The state of a port.

@@ -1,7 +1,7 @@
 //! The rows of a board.
 
 ghost use Rattle.std.specs.Prelude.{◌≡◌, ◌≤◌, List, length, map, IfOk};
-ghost use Rattle.order_core.specs.History.{OrderHistory, Terms};
+ghost use Rattle.order_core.specs.History.{OrderHistory, Terms, issued};
 ghost use Rattle.order_core.specs.State.{IsAfterTurns};
 ghost use Rattle.order_core.specs.order_machine.Runs.{NumbersLeft};
 ghost use Rattle.gate_core.specs.Board.{AreRowsOf, client_row_of, port_row_of};
@@ -26,7 +26,7 @@ pub(crate) fn client_rows<S: BuildHasher + Drop>(
     let mut rows = Vec::with_capacity(alloc, lines.len())?;
     for line in lines {
         let client = (rows.len() + 1) as u16;
-        rows.push(client_row(line, orders.open_count(client)))?;
+        rows.push(client_row(line, orders, client))?;
     }
     Ok(rows)
 }
@@ -42,16 +42,23 @@ pub(crate) fn port_rows(alloc: Global, lines: &[PortLine]) -> Result<Vec<PortRow
     Ok(rows)
 }
 
-/// The row of a client with this many open orders.
-fn client_row(line: &ClientLine, open_orders: usize) -> ClientRow
-    ensures { result ≡ client_row_of open_orders line.now }
+/// The row of a client of this number.
+fn client_row<S: BuildHasher + Drop>(
+    line: &ClientLine,
+    orders: &OrderCore<S>,
+    client: u16,
+) -> ClientRow
+    ensures { (terms : List Terms) (before : OrderHistory) → NumbersLeft before
+        → IsAfterTurns terms before orders.now → result ≡ client_row_of (issued client before) line.now }
 {
     ClientRow {
         link: line.link,
         is_logged_on: line.session.is_logged_on(),
         next_in: line.session.next_in(),
         next_out: line.session.next_out(),
-        open_orders,
+        open_orders: orders.open_count(client),
+        executed_shares: orders.executed_shares(client),
+        value: orders.executed_value(client),
     }
 }
 

@@ -59,7 +59,15 @@ behind_a_mark = refl
 -- ---- orders
 
 abbrev client : ℕ → ClientRow
-client orders = record { link = None; is_logged_on = false; next_in = 1; next_out = 1; open_orders = orders }
+client orders = record {
+  link = None;
+  is_logged_on = false;
+  next_in = 1;
+  next_out = 1;
+  open_orders = orders;
+  executed_shares = 900;
+  value = 21_105_000;
+}
 
 -- clients on the ports 1, 2, 1, 2
 abbrev rows : List ClientRow

@@ -1,5 +1,6 @@
 -- Computed: texts of a peer as a page has them, and rows of clients and ports as each form has them.
 use Rattle.std.specs.Prelude.{◌≡◌, refl, ℕ, true, false, List, [], ◌∷◌, ◌++◌, codes, decimal, Some, None}
+use Rattle.fixed_point.specs.Price.{price_text}
 use Rattle.status_board.specs.Rows.{ClientRow, PortRow, Down, LoggingIn, Up}
 use Rattle.status_page.specs.declared.client_metric.ClientMetric.TheVariants as client
 use Rattle.status_page.specs.declared.port_metric.PortMetric.TheVariants as port
@@ -28,10 +29,26 @@ others_are_dots = refl
 -- ---- rows
 
 abbrev bank : ClientRow
-bank = record { link = Some 17; is_logged_on = true; next_in = 912; next_out = 907; open_orders = 3 }
+bank = record {
+  link = Some 17;
+  is_logged_on = true;
+  next_in = 912;
+  next_out = 907;
+  open_orders = 3;
+  executed_shares = 12_600;
+  value = 295_470_500;
+}
 
 abbrev fund : ClientRow
-fund = record { link = None; is_logged_on = false; next_in = 1; next_out = 1; open_orders = 0 }
+fund = record {
+  link = None;
+  is_logged_on = false;
+  next_in = 1;
+  next_out = 1;
+  open_orders = 0;
+  executed_shares = 0;
+  value = 0;
+}
 
 abbrev names : List (List ℕ)
 names = codes "BANK" ∷ codes "R&D" ∷ []
@@ -42,14 +59,14 @@ cell number = codes "<td class=\"n\">" ++ decimal number
 
 a_client_that_is_logged_on : client_row 1 (codes "BANK") bank
     ≡ (codes "<tr><td><b>C" ++ decimal 1 ++ codes "</b><td>BANK") ++ codes "<td class=\"g\">logged on" ++ cell 17
-    ++ (cell 3 ++ cell 912 ++ cell 907 ++ codes "</tr>\n")
-unfolding client_row client_numbers numbered
+    ++ (cell 3 ++ (cell 12_600 ++ codes "<td class=\"n\">29547.05") ++ cell 912 ++ cell 907 ++ codes "</tr>\n")
+unfolding client_row client_numbers numbered price_text
 a_client_that_is_logged_on = refl
 
 a_client_without_a_link : client_row 2 (codes "R&D") fund
     ≡ (codes "<tr><td><b>C" ++ decimal 2 ++ codes "</b><td>R&amp;D") ++ codes "<td class=\"d\">&ndash;"
-    ++ codes "<td class=\"n d\">&ndash;" ++ (cell 0 ++ cell 1 ++ cell 1 ++ codes "</tr>\n")
-unfolding client_row client_numbers numbered
+    ++ codes "<td class=\"n d\">&ndash;" ++ (cell 0 ++ (cell 0 ++ cell 0) ++ cell 1 ++ cell 1 ++ codes "</tr>\n")
+unfolding client_row client_numbers numbered price_text
 a_client_without_a_link = refl
 
 rows_are_numbered : client_rows 1 names (bank ∷ fund ∷ [])
@@ -64,6 +81,16 @@ open_orders_of_clients : client_lines client.OpenOrders names (bank ∷ fund ∷
     ≡ (codes "gateway_open_orders{client=\"BANK\"} " ++ value 3)
     ++ ((codes "gateway_open_orders{client=\"R&D\"} " ++ value 0) ++ [])
 open_orders_of_clients = refl
+
+executed_shares_of_clients : client_lines client.ExecutedShares names (bank ∷ fund ∷ [])
+    ≡ (codes "gateway_executed_shares{client=\"BANK\"} " ++ value 12_600)
+    ++ ((codes "gateway_executed_shares{client=\"R&D\"} " ++ value 0) ++ [])
+executed_shares_of_clients = refl
+
+executed_value_of_clients : client_lines client.ExecutedValue names (bank ∷ fund ∷ [])
+    ≡ (codes "gateway_executed_value{client=\"BANK\"} " ++ value 295_470_500)
+    ++ ((codes "gateway_executed_value{client=\"R&D\"} " ++ value 0) ++ [])
+executed_value_of_clients = refl
 
 -- a quote and a backslash in a name
 a_name_that_is_quoted : client_lines client.Up ((34 ∷ 92 ∷ []) ∷ []) (bank ∷ [])

@@ -38,6 +38,10 @@ abbrev pub link_data : Option ℕ → Data
 link_data None = null
 link_data (Some link) = number (unsigned link)
 
+-- a number that may be larger than 64 bits hold, and so than a number of JSON is read exactly
+abbrev pub digits_data : ℕ → Data
+digits_data n = string (decimal n)
+
 -- `C1`
 abbrev pub numbered : List ℕ → ℕ → List ℕ
 numbered letter n = letter ++ decimal n
@@ -47,12 +51,14 @@ numbered letter n = letter ++ decimal n
 unfoldable pub client_data : ℕ → List ℕ → ClientRow → Data
 client_data n name row =
     object (member (codes "client") (string (numbered (codes "C") n))
+    (member (codes "executed_shares") (digits_data row.executed_shares)
     (member (codes "link") (link_data row.link)
     (member (codes "logged_on") (boolean row.is_logged_on)
     (member (codes "name") (text_data name)
     (member (codes "next_in") (number (unsigned row.next_in))
     (member (codes "next_out") (number (unsigned row.next_out))
-    (member (codes "open_orders") (number (unsigned row.open_orders)) no_members)))))))
+    (member (codes "open_orders") (number (unsigned row.open_orders))
+    (member (codes "value") (digits_data row.value) no_members)))))))))
 
 abbrev pub client_items : ℕ → List (List ℕ) → List ClientRow → List Data
 client_items n names [] = []

@@ -58,9 +58,14 @@ unfoldable pub client_metric : ClientMetric → List (List ℕ) → List ClientR
 client_metric metric names rows =
     head (client_metric_name metric) (codes "gauge") (client_metric_help metric) ++ client_lines metric names rows
 
+-- what clients executed
+abbrev pub executed : List (List ℕ) → List ClientRow → List ℕ
+executed names rows =
+    client_metric client.ExecutedShares names rows ++ client_metric client.ExecutedValue names rows
+
 unfoldable pub clients : List (List ℕ) → List ClientRow → List ℕ
 clients names rows =
-    client_metric client.Up names rows ++ client_metric client.OpenOrders names rows
+    client_metric client.Up names rows ++ client_metric client.OpenOrders names rows ++ executed names rows
     ++ client_metric client.NextIn names rows ++ client_metric client.NextOut names rows
 
 -- a line for each port, by its address

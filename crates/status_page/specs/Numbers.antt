@@ -16,18 +16,25 @@ client_metric_name client.Up = codes "gateway_client_up"
 client_metric_name client.NextIn = codes "gateway_client_next_in"
 client_metric_name client.NextOut = codes "gateway_client_next_out"
 client_metric_name client.OpenOrders = codes "gateway_open_orders"
+client_metric_name client.ExecutedShares = codes "gateway_executed_shares"
+client_metric_name client.ExecutedValue = codes "gateway_executed_value"
 
 abbrev pub client_metric_help : ClientMetric → List ℕ
 client_metric_help client.Up = codes "1 where a client is logged on."
 client_metric_help client.NextIn = codes "The number that is expected of a client's next frame."
 client_metric_help client.NextOut = codes "The number of the next frame that a client is sent."
 client_metric_help client.OpenOrders = codes "Orders of a client that aren't closed, by its own reports."
+client_metric_help client.ExecutedShares = codes "Executed shares of a client, without broken trades."
+client_metric_help client.ExecutedValue =
+    codes "Their value in 1/10,000: shares times price of each trade that stands."
 
 abbrev pub client_number : ClientMetric → ClientRow → ℕ
 client_number client.Up row = one_where row.is_logged_on
 client_number client.NextIn row = row.next_in
 client_number client.NextOut row = row.next_out
 client_number client.OpenOrders row = row.open_orders
+client_number client.ExecutedShares row = row.executed_shares
+client_number client.ExecutedValue row = row.value
 
 -- ---- ports
 

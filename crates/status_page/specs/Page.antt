@@ -4,6 +4,7 @@
 use Rattle.std.specs.Prelude.{ℕ, ◌+◌, ◌-◌, ◌^◌, ◌/◌, min, List, [], ◌∷◌, ◌++◌, map, drop, codes, decimal}
 use Rattle.std.specs.Prelude.{Option, Some, None, is_some, if◌then◌else◌}
 use Rattle.fix_stamp.specs.Stamp.{stamp_text}
+use Rattle.fixed_point.specs.Price.{price_text}
 use Rattle.status_board.specs.Rows.{ClientRow, PortRow, PortState, Down, LoggingIn, Up, Ended, Faulted, is_up}
 use Rattle.status_board.specs.declared.board.Shown.{Shown}
 use Rattle.status_page.specs.declared.day.DayNames.{DayNames}
@@ -119,11 +120,21 @@ link (Some number) = counted (codes "<td class=\"n\">") number
 abbrev pub number_cell : ℕ → List ℕ
 number_cell number = counted (codes "<td class=\"n\">") number
 
+-- an amount in 1/10,000, as a price is printed
+abbrev pub money_cell : ℕ → List ℕ
+money_cell units = told (codes "<td class=\"n\">") (price_text units)
+
+-- the shares that a client executed, and their value
+abbrev pub executed : ClientRow → List ℕ
+executed row = number_cell row.executed_shares ++ money_cell row.value
+
 unfoldable pub client_numbers : ClientRow → List ℕ
 client_numbers row =
-    number_cell row.open_orders ++ number_cell row.next_in ++ number_cell row.next_out ++ codes "</tr>\n"
+    number_cell row.open_orders ++ executed row ++ number_cell row.next_in ++ number_cell row.next_out
+    ++ codes "</tr>\n"
 
--- a client's row: its name, its session, its link, how many of its orders are open, and the numbers that come next
+-- a client's row: its name, its session, its link, how many of its orders are open, what it executed, and the numbers
+-- that come next
 unfoldable pub client_row : ℕ → List ℕ → ClientRow → List ℕ
 client_row number name row =
     numbered (codes "<tr><td><b>C") number (codes "</b><td>") name ++ session row ++ link row.link ++ client_numbers row
@@ -136,7 +147,8 @@ client_rows number names (row ∷ rows) =
 unfoldable pub client_head : List ℕ
 client_head =
     codes "<h2>Clients</h2><div class=\"t\"><table><tr><th>client<th>name<th>session<th class=\"n\">link"
-    ++ codes "<th class=\"n\">open orders<th class=\"n\">next in<th class=\"n\">next out</tr>\n"
+    ++ codes "<th class=\"n\">open orders<th class=\"n\">executed<th class=\"n\">value<th class=\"n\">next in"
+    ++ codes "<th class=\"n\">next out</tr>\n"
 
 unfoldable pub clients : List (List ℕ) → List ClientRow → List ℕ
 clients names rows = client_head ++ client_rows 1 names rows ++ codes "</table></div>\n"

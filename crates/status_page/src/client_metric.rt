@@ -12,6 +12,8 @@ pub(crate) enum ClientMetric {
     NextIn,
     NextOut,
     OpenOrders,
+    ExecutedShares,
+    ExecutedValue,
 }
 
 impl ClientMetric {
@@ -24,6 +26,8 @@ impl ClientMetric {
             ClientMetric::NextIn => b"gateway_client_next_in",
             ClientMetric::NextOut => b"gateway_client_next_out",
             ClientMetric::OpenOrders => b"gateway_open_orders",
+            ClientMetric::ExecutedShares => b"gateway_executed_shares",
+            ClientMetric::ExecutedValue => b"gateway_executed_value",
         }
     }
 
@@ -37,18 +41,23 @@ impl ClientMetric {
             ClientMetric::NextOut => b"The number of the next frame that a client is sent.",
             ClientMetric::OpenOrders =>
                 b"Orders of a client that aren't closed, by its own reports.",
+            ClientMetric::ExecutedShares => b"Executed shares of a client, without broken trades.",
+            ClientMetric::ExecutedValue =>
+                b"Their value in 1/10,000: shares times price of each trade that stands.",
         }
     }
 
     /// Of a client.
-    pub(crate) fn of(self, row: &ClientRow) -> u64
+    pub(crate) fn of(self, row: &ClientRow) -> u128
         ensures { result ≡ spec.client_number self row.now }
     {
         match self {
-            ClientMetric::Up => one_where(row.is_logged_on),
-            ClientMetric::NextIn => row.next_in,
-            ClientMetric::NextOut => row.next_out,
-            ClientMetric::OpenOrders => row.open_orders as u64,
+            ClientMetric::Up => u128::from(one_where(row.is_logged_on)),
+            ClientMetric::NextIn => u128::from(row.next_in),
+            ClientMetric::NextOut => u128::from(row.next_out),
+            ClientMetric::OpenOrders => row.open_orders as u128,
+            ClientMetric::ExecutedShares => row.executed_shares,
+            ClientMetric::ExecutedValue => row.value,
         }
     }
 }

@@ -4,7 +4,7 @@ ghost use Rattle.std.specs.Prelude.{◌≡◌, ◌++◌, OnOk, map, string_bytes
 ghost use Rattle.status_page.specs.Page as spec;
 
 use crate::day::{first_name, other_names};
-use crate::pieces::{push_link, push_number, push_numbered};
+use crate::pieces::{push_link, push_money, push_number, push_numbered, push_shares};
 use status_board::ClientRow;
 use std::alloc::AllocError;
 
@@ -31,7 +31,8 @@ fn push_head(page: &mut String) -> Result<(), AllocError>
 {
     page.push_str(
         "<h2>Clients</h2><div class=\"t\"><table><tr><th>client<th>name<th>session<th class=\"n\">link\
-<th class=\"n\">open orders<th class=\"n\">next in<th class=\"n\">next out</tr>\n",
+<th class=\"n\">open orders<th class=\"n\">executed<th class=\"n\">value<th class=\"n\">next in\
+<th class=\"n\">next out</tr>\n",
     )?;
     Ok(())
 }
@@ -87,8 +88,17 @@ fn push_numbers(page: &mut String, row: &ClientRow) -> Result<(), AllocError>
     ensures { OnOk result (string_bytes page.new ≡ string_bytes page.old ++ spec.client_numbers row.now) }
 {
     push_number(page, row.open_orders as u64)?;
+    push_executed(page, row)?;
     push_number(page, row.next_in)?;
     push_number(page, row.next_out)?;
     page.push_str("</tr>\n")?;
     Ok(())
+}
+
+/// Adds the shares that a client executed and their value.
+fn push_executed(page: &mut String, row: &ClientRow) -> Result<(), AllocError>
+    ensures { OnOk result (string_bytes page.new ≡ string_bytes page.old ++ spec.executed row.now) }
+{
+    push_shares(page, row.executed_shares)?;
+    push_money(page, row.value)
 }

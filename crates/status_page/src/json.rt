@@ -13,7 +13,9 @@ use status_board::Shown;
 use std::alloc::{AllocError, Global};
 
 /// A day's status as a text of JSON: `gateway`, `begun`, `ends`, and, once there is one, `at`, `age_ms`, `events`,
-/// `clients` and `ports`. Moments are UTCTimestamps; what there isn't is `null`.
+/// `clients` and `ports`. Moments are UTCTimestamps; what there isn't is `null`. A client's `executed_shares` and its
+/// `value` in 1/10,000 may have more than 64 bits, so they are strings of digits: what reads a number of JSON as a float
+/// would round them.
 ///
 /// Source: RFC 8259.
 pub fn json_of(

@@ -97,9 +97,22 @@ fn push_clients(text: &mut Vec<u8>, names: &[Vec<u8>], rows: &[ClientRow]) -> Re
 {
     push_client_metric(text, ClientMetric::Up, names, rows)?;
     push_client_metric(text, ClientMetric::OpenOrders, names, rows)?;
+    push_executed(text, names, rows)?;
     push_client_metric(text, ClientMetric::NextIn, names, rows)?;
     push_client_metric(text, ClientMetric::NextOut, names, rows)?;
     Ok(())
+}
+
+/// Adds the metrics of what clients executed.
+fn push_executed(
+    text: &mut Vec<u8>,
+    names: &[Vec<u8>],
+    rows: &[ClientRow],
+) -> Result<(), AllocError>
+    ensures { OnOk result (text.new.items ≡ text.old.items ++ spec.executed (map (λ v. v.items) names.now) rows.now) }
+{
+    push_client_metric(text, ClientMetric::ExecutedShares, names, rows)?;
+    push_client_metric(text, ClientMetric::ExecutedValue, names, rows)
 }
 
 /// Adds a metric of clients.
@@ -187,7 +200,7 @@ fn push_port_lines(
                 metric.name(),
                 b"port",
                 first_name(names),
-                metric.of(row),
+                u128::from(metric.of(row)),
             )?;
             push_port_lines(text, metric, other_names(names), rows)
         }
@@ -227,7 +240,7 @@ fn push_line(
     metric: &[u8],
     label: &[u8],
     name: &[u8],
-    value: u64,
+    value: u128,
 ) -> Result<(), AllocError>
     ensures { OnOk result (text.new.items ≡ text.old.items ++ spec.line metric.now label.now name.now value) }
 {
@@ -236,7 +249,7 @@ fn push_line(
     text.extend_from_slice(label)?;
     text.extend_from_slice(b"=\"")?;
     push_quoted(text, name)?;
-    push_number(text, b"\"} ", value)
+    push_sum(text, b"\"} ", value)
 }
 
 /// Adds a label's value, in which a backslash, a quote and the end of a line stand behind a backslash.
@@ -267,6 +280,17 @@ fn push_quoted_byte(text: &mut Vec<u8>, byte: u8) -> Result<(), AllocError>
 
 /// Adds a word, a number and the end of the line.
 fn push_number(text: &mut Vec<u8>, word: &[u8], number: u64) -> Result<(), AllocError>
+    ensures { OnOk result (text.new.items ≡ text.old.items ++ spec.counted word.now number) }
+{
+    let mut buffer = Buffer::new();
+    text.extend_from_slice(word)?;
+    text.extend_from_slice(buffer.format(number).as_bytes())?;
+    text.push(b'\n')?;
+    Ok(())
+}
+
+/// The same of a number that may have more than 64 bits.
+fn push_sum(text: &mut Vec<u8>, word: &[u8], number: u128) -> Result<(), AllocError>
     ensures { OnOk result (text.new.items ≡ text.old.items ++ spec.counted word.now number) }
 {
     let mut buffer = Buffer::new();

@@ -1,6 +1,5 @@
 use Rattle.std.proofs.Common.{◌≡◌, ◌++◌, ◌∷◌, [], ℕ, ◌+◌, length, ap, subst, sym, arith, length-append, ◌∙◌}
 use Rattle.gate_sessions.specs.order_law.History.{issued}
-use Rattle.gate_sessions.specs.order_law.Verdicts.{open_orders}
 use Rattle.gate_core.specs.Board.{AreRowsOf, client_row_of}
 use Rattle.gate_core.proofs.Shown.{row-added}
 use Rattle.gate_core.proofs.rows.client_rows.Goals as goal
@@ -23,8 +22,7 @@ loop-line-preserved g c =
           c.client_row.result
           c.loop-line-test.true c.line-item.is c.loop-line.invariant.count
           (c.loop-line.invariant.rows terms before short is)
-          (c.client_row.ensures ∙ ap (λ (n : ℕ). client_row_of n c.line-item.result)
-          (c.open_count.ensures terms before short is)
-          ∙ ap (λ (k : ℕ). client_row_of (open_orders (issued (k + 1) before)) c.line-item.result)
+          (c.client_row.ensures terms before short is
+          ∙ ap (λ (k : ℕ). client_row_of (issued (k + 1) before) c.line-item.result)
           (c.len.ensures ∙ (c.loop-line.rows.ok.0 ∙ c.loop-line.invariant.count))));
     }
