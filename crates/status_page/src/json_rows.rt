@@ -6,7 +6,7 @@ ghost use Rattle.serde_json.specs.View.{items_of, view};
 ghost use Rattle.status_page.specs.Json as spec;
 
 use crate::day::{first_name, other_names};
-use crate::json_values::{digits_value, link_value, text_value};
+use crate::json_values::{digits, link_value, text_value};
 use crate::port_words::{reason_of, state_name};
 use serde_json::{Value, json};
 use status_board::{ClientRow, PortRow};
@@ -64,12 +64,12 @@ fn client_value(
 {
     let client = format!(in alloc; "C{number}")?;
     let name = text_value(alloc, name)?;
-    let shares = digits_value(alloc, row.executed_shares)?;
-    let value = digits_value(alloc, row.value)?;
+    let shares = digits(alloc, row.executed_shares)?;
+    let value = digits(alloc, row.value)?;
     let link = link_value(row.link);
     json!(in alloc; {
         "client": &client, "name": name, "link": link, "logged_on": row.is_logged_on, "open_orders": row.open_orders,
-        "executed_shares": shares, "value": value, "next_in": row.next_in, "next_out": row.next_out
+        "executed_shares": &shares, "value": &value, "next_in": row.next_in, "next_out": row.next_out
     })
 }
 

@@ -1,6 +1,6 @@
 //! Values of JSON.
 
-ghost use Rattle.std.specs.Prelude.{◌≡◌, ◌++◌, ◌∷◌, [], IfOk, OnOk, string_bytes};
+ghost use Rattle.std.specs.Prelude.{◌≡◌, ◌++◌, ◌∷◌, [], IfOk, OnOk, decimal, string_bytes};
 ghost use Rattle.serde_json.specs.View.{view};
 ghost use Rattle.status_page.specs.Json as spec;
 
@@ -54,11 +54,11 @@ pub(crate) fn end_value(alloc: Global, ends: Option<u64>) -> Result<Value, Alloc
     }
 }
 
-/// A number that may be larger than 64 bits hold, as a text of its digits: a number of JSON would be read as a float.
-pub(crate) fn digits_value(alloc: Global, number: u128) -> Result<Value, AllocError>
-    ensures { IfOk result (λ v. view v ≡ spec.digits_data number) }
+/// The digits of a number that may be larger than 64 bits hold: a number of JSON would be read as a float.
+pub(crate) fn digits(alloc: Global, number: u128) -> Result<String, AllocError>
+    ensures { IfOk result (λ text. string_bytes text ≡ decimal number) }
 {
-    Ok(Value::String(format!(in alloc; "{number}")?))
+    format!(in alloc; "{number}")
 }
 
 /// The number of a link, where there is one.
