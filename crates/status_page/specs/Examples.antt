@@ -1,5 +1,6 @@
 -- Computed: texts of a peer as a page has them, and rows of clients and ports as each form has them.
 use Rattle.std.specs.Prelude.{◌≡◌, refl, ℕ, true, false, List, [], ◌∷◌, ◌++◌, codes, decimal, Some, None}
+use Rattle.std.specs.Fmt.{digits}
 use Rattle.fixed_point.specs.Price.{price_text}
 use Rattle.status_board.specs.Rows.{ClientRow, PortRow, Down, LoggingIn, Up}
 use Rattle.status_page.specs.declared.client_metric.ClientMetric.TheVariants as client
@@ -60,13 +61,13 @@ cell number = codes "<td class=\"n\">" ++ decimal number
 a_client_that_is_logged_on : client_row 1 (codes "BANK") bank
     ≡ (codes "<tr><td><b>C" ++ decimal 1 ++ codes "</b><td>BANK") ++ codes "<td class=\"g\">logged on" ++ cell 17
     ++ (cell 3 ++ (cell 12_600 ++ codes "<td class=\"n\">29547.05") ++ cell 912 ++ cell 907 ++ codes "</tr>\n")
-unfolding client_row client_numbers numbered price_text
+unfolding client_row client_numbers numbered price_text digits
 a_client_that_is_logged_on = refl
 
 a_client_without_a_link : client_row 2 (codes "R&D") fund
     ≡ (codes "<tr><td><b>C" ++ decimal 2 ++ codes "</b><td>R&amp;D") ++ codes "<td class=\"d\">&ndash;"
     ++ codes "<td class=\"n d\">&ndash;" ++ (cell 0 ++ (cell 0 ++ cell 0) ++ cell 1 ++ cell 1 ++ codes "</tr>\n")
-unfolding client_row client_numbers numbered price_text
+unfolding client_row client_numbers numbered price_text digits
 a_client_without_a_link = refl
 
 rows_are_numbered : client_rows 1 names (bank ∷ fund ∷ [])

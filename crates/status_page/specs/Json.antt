@@ -38,27 +38,29 @@ abbrev pub link_data : Option ℕ → Data
 link_data None = null
 link_data (Some link) = number (unsigned link)
 
--- a number that may be larger than 64 bits hold, and so than a number of JSON is read exactly
-abbrev pub digits_data : ℕ → Data
-digits_data n = string (decimal n)
-
 -- `C1`
 abbrev pub numbered : List ℕ → ℕ → List ℕ
 numbered letter n = letter ++ decimal n
 
 -- ---- clients and ports
 
-unfoldable pub client_data : ℕ → List ℕ → ClientRow → Data
-client_data n name row =
-    object (member (codes "client") (string (numbered (codes "C") n))
-    (member (codes "executed_shares") (digits_data row.executed_shares)
+-- a client, of whom some members are these texts
+unfoldable pub client_members : (client name shares value : List ℕ) → ClientRow → Data
+client_members client name shares value row =
+    object (member (codes "client") (string client)
+    (member (codes "executed_shares") (string shares)
     (member (codes "link") (link_data row.link)
     (member (codes "logged_on") (boolean row.is_logged_on)
-    (member (codes "name") (text_data name)
+    (member (codes "name") (string name)
     (member (codes "next_in") (number (unsigned row.next_in))
     (member (codes "next_out") (number (unsigned row.next_out))
     (member (codes "open_orders") (number (unsigned row.open_orders))
-    (member (codes "value") (digits_data row.value) no_members)))))))))
+    (member (codes "value") (string value) no_members)))))))))
+
+-- Shares and value may be larger than 64 bits hold, and so than a number of JSON is read exactly: they are texts.
+abbrev pub client_data : ℕ → List ℕ → ClientRow → Data
+client_data n name row = client_members (numbered (codes "C") n) (printable name) (decimal row.executed_shares)
+    (decimal row.value) row
 
 abbrev pub client_items : ℕ → List (List ℕ) → List ClientRow → List Data
 client_items n names [] = []

@@ -1,12 +1,12 @@
 //! Clients and ports as JSON.
 
-ghost use Rattle.std.specs.Prelude.{◌≡◌, ◌++◌, IfOk, OnOk, map};
+ghost use Rattle.std.specs.Prelude.{◌≡◌, ◌++◌, IfOk, OnOk, codes, decimal, map, string_bytes};
 ghost use Rattle.serde_json.specs.Data.{array};
 ghost use Rattle.serde_json.specs.View.{items_of, view};
 ghost use Rattle.status_page.specs.Json as spec;
 
 use crate::day::{first_name, other_names};
-use crate::json_values::{digits, link_value, text_value};
+use crate::json_values::{digits, link_value, printable, text_value};
 use crate::port_words::{reason_of, state_name};
 use serde_json::{Value, json};
 use status_board::{ClientRow, PortRow};
@@ -52,8 +52,18 @@ fn push_clients(
     }
 }
 
+/// Texts of a client.
+#[derive(Drop)]
+struct ClientTexts {
+    /// `C1`.
+    client: String,
+    name: String,
+    /// The shares that were executed, and what they were traded for.
+    shares: String,
+    value: String,
+}
+
 /// A client.
-#[tactic(auto, unfolding(crate::specs::Json::client_data))]
 fn client_value(
     alloc: Global,
     number: u64,
@@ -62,14 +72,44 @@ fn client_value(
 ) -> Result<Value, AllocError>
     ensures { IfOk result (λ v. view v ≡ spec.client_data number name.now row.now) }
 {
+    let texts = client_texts(alloc, number, name, row)?;
+    client_object(alloc, &texts, row)
+}
+
+/// The texts of a client.
+fn client_texts(
+    alloc: Global,
+    number: u64,
+    name: &[u8],
+    row: &ClientRow,
+) -> Result<ClientTexts, AllocError>
+    ensures client { IfOk result (λ t. string_bytes t.client ≡ spec.numbered (codes "C") number) }
+    ensures name { IfOk result (λ t. string_bytes t.name ≡ spec.printable name.now) }
+    ensures shares { IfOk result (λ t. string_bytes t.shares ≡ decimal row.now.executed_shares) }
+    ensures value { IfOk result (λ t. string_bytes t.value ≡ decimal row.now.value) }
+{
     let client = format!(in alloc; "C{number}")?;
-    let name = text_value(alloc, name)?;
+    let name = printable(alloc, name)?;
     let shares = digits(alloc, row.executed_shares)?;
     let value = digits(alloc, row.value)?;
-    let link = link_value(row.link);
+    Ok(ClientTexts {
+        client,
+        name,
+        shares,
+        value,
+    })
+}
+
+/// A client with these texts. It owns nothing but what it makes: each way out drops that alone.
+#[tactic(auto, unfolding(crate::specs::Json::client_members))]
+fn client_object(alloc: Global, texts: &ClientTexts, row: &ClientRow) -> Result<Value, AllocError>
+    ensures { IfOk result (λ v. view v ≡ spec.client_members (string_bytes texts.now.client)
+        (string_bytes texts.now.name) (string_bytes texts.now.shares) (string_bytes texts.now.value) row.now) }
+{
     json!(in alloc; {
-        "client": &client, "name": name, "link": link, "logged_on": row.is_logged_on, "open_orders": row.open_orders,
-        "executed_shares": &shares, "value": &value, "next_in": row.next_in, "next_out": row.next_out
+        "client": &texts.client, "name": &texts.name, "link": link_value(row.link), "logged_on": row.is_logged_on,
+        "open_orders": row.open_orders, "executed_shares": &texts.shares, "value": &texts.value,
+        "next_in": row.next_in, "next_out": row.next_out
     })
 }
 

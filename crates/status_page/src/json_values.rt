@@ -16,7 +16,7 @@ pub(crate) fn text_value(alloc: Global, text: &[u8]) -> Result<Value, AllocError
 }
 
 /// A text's bytes, of which those that aren't printable ASCII are dots.
-fn printable(alloc: Global, text: &[u8]) -> Result<String, AllocError>
+pub(crate) fn printable(alloc: Global, text: &[u8]) -> Result<String, AllocError>
     ensures { IfOk result (λ shown. string_bytes shown ≡ spec.printable text.now) }
 {
     let mut shown = String::new(alloc);
