@@ -7,7 +7,8 @@ use Rattle.status_board.specs.Rows.{ClientRow, PortRow}
 use Rattle.status_board.specs.declared.board.Shown.{Shown}
 use Rattle.status_page.specs.declared.day.DayNames.{DayNames}
 use Rattle.status_page.specs.Page.{first_name, next_number}
-use Rattle.status_page.specs.Json.{bare_data, client_data, client_items, end_data, link_data, port_data, port_items}
+use Rattle.status_page.specs.Json.{bare_data, client_data, client_items, client_members, end_data, link_data}
+use Rattle.status_page.specs.Json.{port_data, port_items}
 use Rattle.status_page.specs.Json.{shown_data, status}
 
 link-depth : (link : Option ℕ) → depth (link_data link) ≡ 0
@@ -19,7 +20,7 @@ end-depth None = refl
 end-depth (Some ends) = refl
 
 client-depth : (n : ℕ) (name : List ℕ) (row : ClientRow) → depth (client_data n name row) ≡ 1
-unfolding client_data
+unfolding client_members
 client-depth n name row = rw (link-depth row.link) refl
 
 port-depth : (n : ℕ) (address : List ℕ) (row : PortRow) → depth (port_data n address row) ≡ 1
