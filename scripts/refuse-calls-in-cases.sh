@@ -3,11 +3,11 @@
 #
 #     scripts/refuse-calls-in-cases.sh [PROGRAM [INPUT]]
 #
-# PROGRAM is session_cases, which is meant where none is named, link_cases, desk_retries, gate_script, gate_retries, or gateway, which audits the
-# script INPUT.
+# PROGRAM is session_cases, which is meant where none is named, link_cases, desk_retries, gate_script, gate_cases, which undoes each step of the script
+# INPUT and makes it again, or gateway, which audits the script INPUT.
 # From the environment KIND says which calls: with `memory`, which is meant where none is said, run N of the program refuses its Nth malloc or realloc, and no
 # other; with `io` its Nth read or write fails; with `short` its Nth read or write of several bytes moves one of them. session_cases makes a session's
-# call again where it answers that memory is wanting, gate_retries a step of the whole core, desk_retries a turn of the desk and its end. So a run may
+# call again where it answers that memory is wanting, gate_cases a step of the whole core, desk_retries a turn of the desk and its end. So a run may
 #
 #   end as without a refusal        what was wanting was asked again, or wasn't needed: "the same"; with `short` each run has to
 #   end with status 1 and words     memory was wanting, or a read or write failed: "reported". What it printed has no case that is wrong, and of
@@ -15,8 +15,8 @@
 #                                   wanting. A read that fails may be that of the script itself: status 2 and the script's name
 #   do anything else                "wrong"
 #
-# INPUT is the program's input, the crate's stdin (of gateway data/day.script) where none is named. `rt run` in the crate's folder has to have built
-# the program. It needs a C compiler, and a program that is linked with the C library as a shared one.
+# INPUT is the program's input, the crate's stdin (of gateway data/day.script, of gate_cases the script of the last case) where none is named. `rt run` in
+# the crate's folder has to have built the program. It needs a C compiler, and a program that is linked with the C library as a shared one.
 # From the environment too: AT_MOST (the last N, 100000). Exit status: 0 nothing was wrong, 1 something was, 2 nothing was judged.
 set -euo pipefail
 
@@ -29,6 +29,9 @@ if [ "$name" = gateway ]; then
     cases=${2:-$repository/crates/gateway/data/day.script}
     words=(audit --script "$cases")
 fi
+case_script() {
+    awk '/^case /{ is_meant = /^case the script for refused requests for memory: / } is_meant && !/^(case|--|->)/' "$repository/crates/gate_cases/stdin"
+}
 at_most=${AT_MOST:-100000}
 kind=${KIND:-memory}
 if [ ! -x "$program" ]; then
@@ -39,6 +42,14 @@ fi
 work=$(mktemp -d "${TMPDIR:-/tmp}/refuse-calls-in-cases.XXXXXX")
 trap 'rm -rf "$work"' EXIT
 trap 'exit 130' INT TERM
+
+if [ "$name" = gate_cases ]; then
+    words=(again)
+    if [ -z "${2:-}" ]; then
+        cases=$work/script
+        case_script > "$cases"
+    fi
+fi
 
 cat > "$work/refuse.c" <<'C'
 #define _GNU_SOURCE

@@ -1,5 +1,6 @@
 //! A case: a script with what it prints.
 
+use crate::again::run_again;
 use crate::between::{Named, push_line};
 use gate_lines::{Flags, run_script, run_script_with};
 use other_hashers::{Nothing, Seeded};
@@ -97,8 +98,8 @@ impl Case {
         }
     }
 
-    /// Ends the case, and says whether all was as it is to be; also with lines of others between, where that is asked
-    /// for.
+    /// Ends the case, and says whether all was as it is to be; also with each step undone and made again, and with
+    /// lines of others between, where that is asked for.
     pub fn end<W: Write>(
         &self,
         alloc: Global,
@@ -108,7 +109,9 @@ impl Case {
         if self.name.is_empty() {
             return Ok(());
         }
-        let is_right = self.is_right && self.has_run(alloc) && (!is_mixed || self.is_apart(alloc)?);
+        let is_right = self.is_right
+            && self.has_run(alloc)
+            && (!is_mixed || self.is_same_again(alloc) && self.is_apart(alloc)?);
         output.write_all(self.name.as_slice())?;
         output.write_all(if is_right {
             b": right\n".as_slice()
@@ -126,6 +129,17 @@ impl Case {
             self.wanted.as_slice(),
             self.told.as_slice(),
         )
+    }
+
+    /// Whether it prints the same with each step undone and made again. A script that ends at a line that isn't
+    /// understood, or in which nobody is logged on before, is left as it is.
+    fn is_same_again(&self, alloc: Global) -> bool {
+        if self.flags.cold || !self.told.is_empty() {
+            return true;
+        }
+        let mut input = self.script.as_slice();
+        let mut output = Vec::new(alloc);
+        run_again(alloc, self.flags, &mut input, &mut output).is_ok() && output == self.wanted
     }
 
     /// Whether, with lines of others between, its own lines print the same, and those of the others what they print

@@ -1,25 +1,57 @@
 //! Runs cases of scripts, those of standard input and then the examples that the command line names, and prints a
 //! verdict for each. `README.md` has what a line of the input may say. With a word on the command line each script is
 //! also run with lines of others between its own; the words behind it are the examples: of each the folder has the
-//! files `NAME`, a script, and `NAME.stdout`, what it prints.
+//! files `NAME`, a script, and `NAME.stdout`, what it prints. With the word `again` alone standard input is one script,
+//! of which each step is undone and made again.
 #![tactic(auto)]
 
+mod again;
 mod between;
 mod case;
 
+use again::run_again;
 use case::Case;
+use gate_lines::Flags;
 use std::io::{self, BufRead, BufReader};
+use std::process::ExitCode;
 use std::{env, fs};
 
-fn main(rt: HostRuntime) -> io::Result<()> {
-    let mut words = env::args(&rt)?;
+fn main(rt: HostRuntime) -> ExitCode {
+    match run(&rt) {
+        Ok(()) => ExitCode::SUCCESS,
+        Err(_) => {
+            let _ = rt.eprintln(
+                "out of memory, a file that can't be read, or a line that isn't understood",
+            );
+            ExitCode::from(1)
+        }
+    }
+}
+
+fn run(rt: &HostRuntime) -> io::Result<()> {
+    let mut words = env::args(rt)?;
     let _program = words.next();
-    let is_mixed = words.next().is_some();
-    run_cases(&rt, is_mixed)?;
+    let Some(word) = words.next() else {
+        return run_cases(rt, false);
+    };
+    if word.as_str() == "again" {
+        return run_numbered(rt);
+    }
+    run_cases(rt, true)?;
     for name in words {
-        run_example(&rt, name.as_str())?;
+        run_example(rt, name.as_str())?;
     }
     Ok(())
+}
+
+/// Steps the script of standard input again, and prints what it tells, with the numbers of frames.
+fn run_numbered(rt: &HostRuntime) -> io::Result<()> {
+    let flags = Flags {
+        num: true,
+        raw: false,
+        cold: false,
+    };
+    run_again(rt.alloc(), flags, &mut rt.reader(), &mut io::writer(rt))
 }
 
 /// Runs the cases of standard input.

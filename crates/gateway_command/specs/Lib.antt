@@ -1,3 +1,4 @@
 pub mod Command
 mod Examples
+pub mod Rows
 pub mod Seen

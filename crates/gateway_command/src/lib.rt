@@ -2,8 +2,10 @@
 #![tactic(auto)]
 
 mod asking;
+mod building;
 mod command;
 mod help;
+mod table;
 mod version;
 
 pub use asking::{Asked, Syncs, links_of, number_between, syncs_of};
