@@ -4,7 +4,8 @@ ghost use Rattle.std.specs.Prelude.{◌≡◌};
 
 use crate::events::{message, up};
 use desk::{DeskName, Finished, Inlet, Outlet, Parts, Shared, open_desk};
-use gate_core::{Event, LinkOut};
+use gate_core::{ClientNumber, Event, LinkOut};
+use script_steps::{History, Source};
 use std::alloc::{AllocError, Global};
 use std::sync::Wait;
 
@@ -106,11 +107,12 @@ fn turn<K: DeskName, R: Wait>(
         Ok(turned) => turned,
         Err(_) => shared.turn(rt, alloc)?,
     };
-    if turned.steps == 1 && turned.held == 0 {
+    if turned.steps == 1 && turned.held == 0 && turned.refused == 0 {
         return Ok(());
     }
     show(shown, b"steps ", u64::from(turned.steps))?;
-    show(shown, b"held ", u64::from(turned.held))
+    show(shown, b"held ", u64::from(turned.held))?;
+    show(shown, b"refused ", u64::from(turned.refused))
 }
 
 /// Shows the next list that the client is told: its frames.
@@ -127,7 +129,7 @@ fn show_next<K: DeskName>(outlet: &mut Outlet<K>, shown: &mut Vec<u8>) -> Result
     shown.extend_from_slice(b"\n")
 }
 
-/// Finishes all ends and closes the desk. Shows how many events the history has.
+/// Finishes all ends and closes the desk. Shows what events the history has.
 fn close<K: DeskName>(
     alloc: Global,
     shared: Shared<K>,
@@ -135,9 +137,13 @@ fn close<K: DeskName>(
     outlets: Vec<Outlet<K>>,
     shown: &mut Vec<u8>,
 ) -> Result<(), AllocError> {
-    let finished = finished_of(alloc, inlets, outlets)?;
-    let events = events_of(alloc, shared, finished)?;
-    show(shown, b"events ", events)
+    match finished_of(alloc, inlets, outlets) {
+        Ok(finished) => show_events(alloc, &history_of(alloc, shared, finished)?, shown),
+        Err(error) => {
+            drop(shared);
+            Err(error)
+        }
+    }
 }
 
 /// What was put and taken.
@@ -158,19 +164,51 @@ fn finished_of<K: DeskName>(
     Ok(finished)
 }
 
-/// Closes the desk, once more where memory ran out, and counts the events of its history.
-fn events_of<K: DeskName>(
+/// Closes the desk, once more where memory ran out: its history.
+fn history_of<K: DeskName>(
     alloc: Global,
     shared: Shared<K>,
     finished: Vec<Finished<K>>,
-) -> Result<u64, AllocError> {
+) -> Result<History, AllocError> {
     match shared.close(alloc, finished) {
-        Ok(closed) => Ok(closed.history.events(alloc)?.len() as u64),
-        Err((_, shared, finished)) => match shared.close(alloc, finished) {
-            Ok(closed) => Ok(closed.history.events(alloc)?.len() as u64),
-            Err((error, _, _)) => Err(error),
-        },
+        Ok(closed) => Ok(closed.history),
+        Err((_, shared, finished)) => history_again(alloc, shared, finished),
     }
+}
+
+/// Closes the desk: its history.
+fn history_again<K: DeskName>(
+    alloc: Global,
+    shared: Shared<K>,
+    finished: Vec<Finished<K>>,
+) -> Result<History, AllocError> {
+    match shared.close(alloc, finished) {
+        Ok(closed) => Ok(closed.history),
+        Err((error, shared, finished)) => {
+            drop(finished);
+            drop(shared);
+            Err(error)
+        }
+    }
+}
+
+/// Shows how many events a history has, and whether one of them isn't the first client's.
+fn show_events(alloc: Global, history: &History, shown: &mut Vec<u8>) -> Result<(), AllocError> {
+    let events = history.events(alloc)?;
+    if !are_of_client(events.as_slice()) {
+        shown.extend_from_slice(b"another's event\n")?;
+    }
+    show(shown, b"events ", events.len() as u64)
+}
+
+/// Whether all events are the first client's.
+fn are_of_client(events: &[Event]) -> bool {
+    for event in events {
+        if event.source() != Source::Client(ClientNumber::new(1)) {
+            return false;
+        }
+    }
+    true
 }
 
 /// Adds a word and a number.

@@ -1,14 +1,11 @@
 //! Rings that are full.
 
-ghost use Rattle.std.specs.Prelude.{◌≡◌};
-
-use super::ends::{close, finish_inlet, step, turns_to};
+use super::ends::{step, turns_to};
 use super::events::{logon, put, test_request, tick, up};
-use super::lent::{Borrower, fixed_parts, lend};
-use desk::{DeskName, Finished, Inlet, Outlet, Parts, Shared, open_desk};
-use script_steps::{ClientNumber, History, Source};
+use super::lent::{Borrower, lend};
+use desk::{DeskName, Inlet, Outlet, Shared};
+use script_steps::Source;
 use std::alloc::Global;
-use std::marker::Brand;
 use std::process::Abort;
 use std::sync::Wait;
 use std::test::Fail;
@@ -39,43 +36,14 @@ pub fn fill_with_ticks<K: DeskName, R: Wait + Abort>(
     Ok(())
 }
 
-/// An event waits while the outlet of its client is full. The closed history has all that was put, and nothing else.
+/// An event waits while the outlet of its client is full, and is stepped after one `take`.
 #[test]
 fn held_and_stepped(rt: HostRuntime) -> Result<(), Fail> {
-    let parts = fixed_parts(rt.alloc())?;
-    holds::<Brand, _>(&rt, rt.alloc(), parts)
-}
-
-fn holds<K: DeskName, R: Wait + Abort>(rt: &R, alloc: Global, parts: Parts) -> Result<(), Fail>
-    requires named { (parts.inlets ≡ K.inlets) × (parts.outlets ≡ K.outlets) }
-{
-    let (shared, inlets, outlets) = open_desk::<K, _>(alloc, parts)?;
-    let finished = hold_and_finish(rt, alloc, &shared, inlets, outlets)?;
-    let history = close(alloc, shared, finished)?;
-    look_at(rt, alloc, &history)
-}
-
-/// An event is held until a list is taken, and all ends finish.
-fn hold_and_finish<K: DeskName, R: Wait + Abort>(
-    rt: &R,
-    alloc: Global,
-    shared: &Shared<K>,
-    inlets: Vec<Inlet<K>>,
-    outlets: Vec<Outlet<K>>,
-) -> Result<Vec<Finished<K>>, Fail> {
-    let (mut inlets, mut outlets) = (inlets, outlets);
-    hold(
-        rt,
-        alloc,
-        shared,
-        inlets.as_mut_slice(),
-        outlets.as_mut_slice(),
-    )?;
-    finish_all(alloc, inlets, outlets)
+    lend(&rt, rt.alloc(), Borrower::HeldAndStepped)
 }
 
 /// An event is held until a list is taken.
-fn hold<K: DeskName, R: Wait + Abort>(
+pub fn hold<K: DeskName, R: Wait + Abort>(
     rt: &R,
     alloc: Global,
     shared: &Shared<K>,
@@ -145,30 +113,4 @@ fn tick_beside<K: DeskName, R: Wait + Abort>(
         turns_to(rt, alloc, shared, 1, 1)?;
     }
     Ok(())
-}
-
-/// The history has all that was put, each event of the first client.
-fn look_at<R: Abort>(rt: &R, alloc: Global, history: &History) -> Result<(), Fail> {
-    let events = history.events(alloc)?;
-    assert!(rt; events.len() == 1_026);
-    for event in &events {
-        assert!(rt; event.source() == Source::Client(ClientNumber::new(1)));
-    }
-    Ok(())
-}
-
-/// What is left of all ends, once they have finished.
-fn finish_all<K: DeskName>(
-    alloc: Global,
-    inlets: Vec<Inlet<K>>,
-    outlets: Vec<Outlet<K>>,
-) -> Result<Vec<Finished<K>>, Fail> {
-    let mut finished = Vec::new(alloc);
-    for inlet in inlets {
-        finish_inlet(inlet, &mut finished)?;
-    }
-    for outlet in outlets {
-        finished.push(outlet.finish())?;
-    }
-    Ok(finished)
 }

@@ -4,8 +4,8 @@ ghost use Rattle.std.specs.Prelude.{◌≡◌};
 
 use super::bell_of_port::rings_port;
 use super::bells::{rings, rings_by_turns};
-use super::full_rings::{fill_with_ticks, goes_on};
-use desk::{DeskName, Inlet, Parts, Shared, open_desk};
+use super::full_rings::{fill_with_ticks, goes_on, hold};
+use desk::{DeskName, Inlet, Outlet, Parts, Shared, open_desk};
 use script_steps::fixed_settings;
 use std::alloc::{AllocError, Global};
 use std::marker::Brand;
@@ -14,7 +14,7 @@ use std::sync::Wait;
 use std::test::Fail;
 use std::time::Clock;
 
-/// What a desk is lent for: the tests of one thread alone, which leave its outlets untouched.
+/// What a desk is lent for: the tests of one thread alone.
 #[derive(Clone, Copy)]
 pub enum Borrower {
     RingsOne,
@@ -22,6 +22,7 @@ pub enum Borrower {
     AnOrderRingsItsPort,
     TicksAndOneMore,
     TimeGoesOn,
+    HeldAndStepped,
 }
 
 /// A core and rings of the fixed settings: three clients on two ports.
@@ -47,8 +48,15 @@ fn open_and_lend<K: DeskName, R: Wait + Abort + Clock>(
 ) -> Result<(), Fail>
     requires named { (parts.inlets ≡ K.inlets) × (parts.outlets ≡ K.outlets) }
 {
-    let (shared, mut inlets, _outlets) = open_desk::<K, _>(alloc, parts)?;
-    look(rt, alloc, &shared, inlets.as_mut_slice(), borrower)
+    let (shared, mut inlets, mut outlets) = open_desk::<K, _>(alloc, parts)?;
+    look(
+        rt,
+        alloc,
+        &shared,
+        inlets.as_mut_slice(),
+        outlets.as_mut_slice(),
+        borrower,
+    )
 }
 
 fn look<K: DeskName, R: Wait + Abort + Clock>(
@@ -56,6 +64,7 @@ fn look<K: DeskName, R: Wait + Abort + Clock>(
     alloc: Global,
     shared: &Shared<K>,
     inlets: &mut [Inlet<K>],
+    outlets: &mut [Outlet<K>],
     borrower: Borrower,
 ) -> Result<(), Fail> {
     match borrower {
@@ -64,5 +73,6 @@ fn look<K: DeskName, R: Wait + Abort + Clock>(
         Borrower::AnOrderRingsItsPort => rings_port(rt, alloc, shared, inlets),
         Borrower::TicksAndOneMore => fill_with_ticks(rt, alloc, shared, inlets),
         Borrower::TimeGoesOn => goes_on(rt, alloc, shared, inlets),
+        Borrower::HeldAndStepped => hold(rt, alloc, shared, inlets, outlets),
     }
 }

@@ -124,7 +124,7 @@ fn first_pen<'w, 'a, K: DeskName>(
     Ok(OutletPen::new(OutletGate::new(shared, outlet)))
 }
 
-/// The first client's link comes up, and it logs on. Its writer's bell rings only once the gate is to wake it.
+/// The gate of the first client's inlet turns.
 fn turn_with<'p, 'w, 'a, K: DeskName, R: Wait + Abort + Clock>(
     rt: &R,
     alloc: Global,
@@ -134,10 +134,28 @@ fn turn_with<'p, 'w, 'a, K: DeskName, R: Wait + Abort + Clock>(
 ) -> Result<(), Fail> {
     let mut inlets = inlets;
     inlets.truncate(1);
-    let Some(inlet) = inlets.pop() else {
-        return Err(Fail::new("an inlet"));
-    };
-    let mut gate = InletGate::new(shared, pens, inlet);
+    match inlets.pop() {
+        Some(inlet) => turn(rt, alloc, shared, &mut InletGate::new(shared, pens, inlet)),
+        None => Err(Fail::new("an inlet")),
+    }
+}
+
+/// The gate of the first client's inlet.
+type FirstGate<'p, 'w, 'a, K> = InletGate<
+    'p,
+    'a,
+    Kept<'w>,
+    OutletGate<'a, K, BuildHasherDefault<FoldHasher>>,
+    K,
+>;
+
+/// The first client's link comes up, and it logs on. Its writer's bell rings only once the gate is to wake it.
+fn turn<'p, 'w, 'a, K: DeskName, R: Wait + Abort + Clock>(
+    rt: &R,
+    alloc: Global,
+    shared: &'a Shared<K>,
+    gate: &mut FirstGate<'p, 'w, 'a, K>,
+) -> Result<(), Fail> {
     assert!(rt; gate.put(up()).is_ok());
     assert!(rt; gate.put(logon(alloc)?).is_ok());
     assert!(rt; gate.turn(rt, alloc)? == 2);
