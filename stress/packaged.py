@@ -43,8 +43,7 @@ def main():
     for place, table, number, key in keys(lines):
         changed = lines[:place] + [f"{key} = 1979-05-27"] + lines[place + 1:]
         status, said = told(gateway, "\n".join(changed) + "\n")
-        names = {"": key, "day": f"day.{key}", "control": f"control.{key}"}
-        wanted = names.get(table, f"client[{number}].from" if key == "from" else key)
+        wanted = {"": key, "day": f"day.{key}", "control": f"control.{key}"}.get(table, f"{table}[{number}].{key}")
         count += 1
         if (status, said) != (2, f"gateway: settings: {wanted}\n"):
             print(f"WRONG  {table}[{number}].{key} is read:", status, said)

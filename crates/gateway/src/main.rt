@@ -245,17 +245,21 @@ fn export_read(rt: &HostRuntime, read: &DayFile, format: Format) -> ExitCode {
     }
 }
 
-/// The settings in a file, or the status where they are refused.
+/// The settings in a file, or the status where they are refused: by the bare key.
 fn settings_at(rt: &HostRuntime, path: &str) -> Result<SettingsFile, ExitCode> {
     let text = file_at(rt, path)?;
     match read(rt.alloc(), text.as_slice()) {
         Ok(file) => Ok(file),
         Err(SettingsFault::NoMemory) => Err(out_of_memory(rt)),
-        Err(SettingsFault::Refused(key)) => {
-            let _ = eprintln!(rt; "gateway: settings: {key}");
-            Err(ExitCode::from(2))
-        }
+        Err(SettingsFault::Refused(refusal)) => Err(refused_key(rt, refusal.key.as_str())),
+        Err(SettingsFault::NotToml(_)) => Err(refused_key(rt, "toml")),
     }
+}
+
+/// Tells which key of settings is refused.
+fn refused_key(rt: &HostRuntime, key: &str) -> ExitCode {
+    let _ = eprintln!(rt; "gateway: settings: {key}");
+    ExitCode::from(2)
 }
 
 /// A gateway that is to be run: its settings, how many links of each client are served, and where its day's journal

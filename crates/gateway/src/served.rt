@@ -1,7 +1,7 @@
 //! `serve` and `end`.
 
 use super::journal::{journal_asked, stopped_at};
-use super::{ended, file_at, lines_of, no_seed, out_of_memory, settings_at};
+use super::{ended, file_at, lines_of, no_seed, out_of_memory, refused_key};
 use gateway_run::{
     Day, DayJournal, RunFault, SettingsFault, SettingsFile, end_stopped, read, tell,
 };
@@ -55,11 +55,7 @@ fn all_settings_at(
     path: &str,
 ) -> Result<(SettingsFile, OperatorSettings), ExitCode> {
     let text = file_at(rt, path)?;
-    let file = match read(rt.alloc(), text.as_slice()) {
-        Ok(file) => file,
-        Err(SettingsFault::NoMemory) => return Err(out_of_memory(rt)),
-        Err(SettingsFault::Refused(key)) => return Err(refused_key(rt, key.as_str())),
-    };
+    let file = settings_in(rt, text.as_slice())?;
     match read_operator(rt.alloc(), text.as_slice()) {
         Ok(operator) => Ok((file, operator)),
         Err(OperatorFault::NoMemory) => Err(out_of_memory(rt)),
@@ -67,10 +63,21 @@ fn all_settings_at(
     }
 }
 
-/// Tells which key of settings is refused.
-fn refused_key(rt: &HostRuntime, key: &str) -> ExitCode {
-    let _ = eprintln!(rt; "gateway: settings: {key}");
-    ExitCode::from(2)
+/// What a settings file says of the gateway, or the status where it is refused: by a key with its table, or by the line
+/// that isn't TOML.
+fn settings_in(rt: &HostRuntime, text: &[u8]) -> Result<SettingsFile, ExitCode> {
+    match read(rt.alloc(), text) {
+        Ok(file) => Ok(file),
+        Err(SettingsFault::NoMemory) => Err(out_of_memory(rt)),
+        Err(SettingsFault::Refused(refusal)) => {
+            let _ = eprintln!(rt; "gateway: settings: {refusal}");
+            Err(ExitCode::from(2))
+        }
+        Err(SettingsFault::NotToml(line)) => {
+            let _ = eprintln!(rt; "gateway: settings: toml: line {line}");
+            Err(ExitCode::from(2))
+        }
+    }
 }
 
 /// What `serve` asks for, or the status where it is refused: of settings, of a journal that can't be made new, or of an
@@ -184,7 +191,8 @@ pub(crate) fn asked_end<'a>(
     settings: &str,
     path: &'a str,
 ) -> Result<AskedEnd<'a>, ExitCode> {
-    let file = settings_at(rt, settings)?;
+    let text = file_at(rt, settings)?;
+    let file = settings_in(rt, text.as_slice())?;
     let journal = stopped_at(rt, path)?;
     Ok(AskedEnd {
         file,

@@ -19,10 +19,18 @@ use Rattle.settings_file.specs.Rules.{Rule, text_in, where_it_holds, kept_text, 
 use Rattle.settings_file.specs.Rules.{own_name, own_address, address, user, password, port_name, firm, letter}
 use Rattle.settings_file.specs.Rules.{is_letter_of, port_rules, client_rules, gateway_rules, are_tables, tables_at}
 use Rattle.settings_file.specs.Rules.{first_refused, refused_among, refused_port, refused_client}
+use Rattle.settings_file.specs.Rules.{Refused, in_table, number_behind}
+use Rattle.settings_file.specs.declared.fault.SettingsTable.{SettingsTable}
+use Rattle.settings_file.specs.declared.fault.SettingsTable.TheVariants.{Top, Port, Client}
 use Rattle.settings_file.specs.File.{WhatIsNotRefusedIsServed, text_at, login_at, number_of_name, padded_firm}
 use Rattle.settings_file.specs.File.{first_byte, client_at, file_settings}
 
 -- ---- rules that are kept
+
+-- nothing is refused in a table where no key is
+no-key : (of : SettingsTable) (key : Option (List ℕ)) → in_table of key ≡ None → key ≡ None
+no-key of None h = refl
+no-key of (Some k) h = absurd (true≢false (ap is_some h))
 
 neither : {X : Type 0} (a b : Option X) → option_or a b ≡ None → (a ≡ None) × (b ≡ None)
 neither None b h = (refl, h)
@@ -58,7 +66,7 @@ kept r rs t h =
 
 port-served : (earlier : List Data) (t : Data) → refused_port earlier t ≡ None → is_port (login_at t) ≡ true
 port-served earlier t h =
-    let rules = (neither (first_broken (port_rules earlier) t) _ h).0 in
+    let rules = (neither (first_broken (port_rules earlier) t) _ (no-key (Port (number_behind earlier)) _ h)).0 in
     let name = kept (own_name (codes "name") earlier) (address (codes "address") ∷ user ∷ password ∷ []) t rules in
     let place = kept (address (codes "address")) (user ∷ password ∷ []) t name.1 in
     let who = kept user (password ∷ []) t place.1 in
@@ -123,7 +131,7 @@ client-served : (s : Settings) (ports earlier : List Data) (t : Data) → length
     → refused_client ports earlier t ≡ None
     → is_client s (client_at ports t) ≡ true
 client-served s ports earlier t beside h =
-    let rules = (neither (first_broken (client_rules ports earlier) t) _ h).0 in
+    let rules = (neither (first_broken (client_rules ports earlier) t) _ (no-key (Client (number_behind earlier)) _ h)).0 in
     let for_whom = letter (codes "capacity") (codes "APR") in
     let whose = letter (codes "customer") (codes "RN ") in
     let comp = kept (own_name (codes "comp") earlier) (behind_comp ports earlier) t rules in
@@ -175,7 +183,7 @@ have-own ts t is text h =
 own : (ports earlier : List Data) (t : Data) → refused_client ports earlier t ≡ None
     → (text_in (codes "comp") t ≡ Some (name_at t)) × (is_text_of (codes "comp") earlier (name_at t) ≡ false)
 own ports earlier t h =
-    let rules = (neither (first_broken (client_rules ports earlier) t) _ h).0 in
+    let rules = (neither (first_broken (client_rules ports earlier) t) _ (no-key (Client (number_behind earlier)) _ h)).0 in
     let comp = (kept (own_name (codes "comp") earlier) (behind_comp ports earlier) t rules).0 in
     (comp.0, not-true _ (and_parts (is_name (name_at t)) _ comp.1).1)
 
@@ -201,21 +209,22 @@ each-own ports earlier (t ∷ ts) h =
 
 -- ---- the whole
 
-counted : (b : Bool) (key : List ℕ) (found : Option (List ℕ)) → (if b then found else Some key) ≡ None
+counted : (b : Bool) (refused : Refused) (found : Option Refused) → (if b then found else Some refused) ≡ None
     → (b ≡ true) × (found ≡ None)
-counted = λ b key found h. kept-or-broken b key found h
+counted true refused found h = (refl, h)
+counted false refused found h = absurd (true≢false (ap is_some h))
 
 pub what_is_not_refused_is_served : WhatIsNotRefusedIsServed
 what_is_not_refused_is_served file h =
     let ports = tables_at (codes "port") file in
     let clients = tables_at (codes "client") file in
     let s = (file_settings file).settings in
-    let a = neither (first_broken gateway_rules file) _ h in
+    let a = neither (in_table Top (first_broken gateway_rules file)) _ h in
     let b = neither (refused_among (codes "port") 16 refused_port ports) _ a.1 in
     let c = neither (refused_among (codes "client") 64 (refused_client ports) clients) _ b.1 in
-    let comp = (kept (own_name (codes "comp") []) [] file a.0).0 in
-    let p = counted (are_tables 16 ports) (codes "port") (first_refused refused_port [] ports) b.0 in
-    let q = counted (are_tables 64 clients) (codes "client") (first_refused (refused_client ports) [] clients) c.0 in
+    let comp = (kept (own_name (codes "comp") []) [] file (no-key Top _ a.0)).0 in
+    let p = counted (are_tables 16 ports) (record { table = Top; key = codes "port" }) (first_refused refused_port [] ports) b.0 in
+    let q = counted (are_tables 64 clients) (record { table = Top; key = codes "client" }) (first_refused (refused_client ports) [] clients) c.0 in
     and_from _ _ (and_parts (is_name (text_at (codes "comp") file)) _ comp.1).0
     (and_from _ _ (ap (is_between 1 16) (length-map ports login_at)
     ∙ (and_parts (is_between 1 16 (length ports)) _ p.0).0)

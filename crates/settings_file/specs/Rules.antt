@@ -4,20 +4,36 @@
 -- "Standard Message Header"; user and password: SoupBinTCP 3.00, "Login Request Packet"; firm, capacity and customer:
 -- OUCH 4.2, "Enter Order Message".
 use Rattle.std.specs.Prelude.{ℕ, Bool, false, not, ◌&&◌, ◌||◌, ◌==◌, nat_le, List, [], ◌∷◌, ◌++◌, map, length, drop}
-use Rattle.std.specs.Prelude.{codes, bytes_eq, find, Option, Some, None, option_and_then, is_some, if◌then◌else◌}
+use Rattle.std.specs.Prelude.{codes, bytes_eq, find, Option, Some, None, option_and_then, option_map, is_some}
+use Rattle.std.specs.Prelude.{◌+◌, take, if◌then◌else◌}
 use Rattle.std.specs.Option.{option_or}
-use Rattle.std.specs.List.{list_all, list_any}
+use Rattle.std.specs.List.{count_by, list_all, list_any}
 use Rattle.std.specs.Char.{is_ascii_digit}
 use Rattle.decimal_digits.specs.Digits.{number_of}
 use Rattle.wire_law.specs.Printable.{is_printable, is_visible}
 use Rattle.gate_law.specs.Limits.{is_between, is_byte_of, is_name}
 use Rattle.toml.specs.Data.{Data, table, Items, no_items, item, Members, no_members, member, get, as_array, as_str}
 use Rattle.toml.specs.Data.{as_table}
+use Rattle.settings_file.specs.declared.fault.SettingsTable.{SettingsTable}
+use Rattle.settings_file.specs.declared.fault.SettingsTable.TheVariants.{Top, Port, Client}
 
 -- a key, and which texts it may have
 pub record Rule : Type 0 where
   pub key : List ℕ
   pub holds : List ℕ → Bool
+
+-- the line, from 1, on which this place of a text is: one behind each line feed in front of it
+abbrev pub line_at : ℕ → List ℕ → ℕ
+line_at place text = count_by (λ byte. byte == 10) (take place text) + 1
+
+-- what a file is refused by: a key, missing or wrong in one of its tables
+pub record Refused : Type 0 where
+  pub table : SettingsTable
+  pub key : List ℕ
+
+-- a key that is refused in this table
+abbrev pub in_table : SettingsTable → Option (List ℕ) → Option Refused
+in_table of key = option_map (λ k. record { table = of; key = k }) key
 
 -- the text of a key in a table, where it has one
 abbrev pub text_in : List ℕ → Data → Option (List ℕ)
@@ -172,25 +188,32 @@ abbrev pub are_tables : ℕ → List Data → Bool
 are_tables most ds = is_between 1 most (length ds) && list_all is_table ds
 
 -- of tables one after another, each behind the earlier ones
-abbrev pub first_refused : (List Data → Data → Option (List ℕ)) → List Data → List Data → Option (List ℕ)
+abbrev pub first_refused : (List Data → Data → Option Refused) → List Data → List Data → Option Refused
 first_refused refused earlier [] = None
 first_refused refused earlier (t ∷ ts) = option_or (refused earlier t) (first_refused refused (earlier ++ t ∷ []) ts)
 
-abbrev pub refused_among : List ℕ → ℕ → (List Data → Data → Option (List ℕ)) → List Data → Option (List ℕ)
-refused_among key most refused ts = if are_tables most ts then first_refused refused [] ts else Some key
+abbrev pub refused_among : List ℕ → ℕ → (List Data → Data → Option Refused) → List Data → Option Refused
+refused_among key most refused ts =
+    if are_tables most ts then first_refused refused [] ts else Some (record { table = Top; key = key })
 
-abbrev pub refused_port : List Data → Data → Option (List ℕ)
-refused_port earlier t = refused_in (port_rules earlier) t
+-- the number of the table behind these
+abbrev pub number_behind : List Data → ℕ
+number_behind earlier = length earlier + 1
 
-abbrev pub refused_client : List Data → List Data → Data → Option (List ℕ)
-refused_client ports earlier t = option_or (first_broken (client_rules ports earlier) t) (first_other client_keys t)
+abbrev pub refused_port : List Data → Data → Option Refused
+refused_port earlier t = in_table (Port (number_behind earlier)) (refused_in (port_rules earlier) t)
+
+abbrev pub refused_client : List Data → List Data → Data → Option Refused
+refused_client ports earlier t =
+    in_table (Client (number_behind earlier))
+    (option_or (first_broken (client_rules ports earlier) t) (first_other client_keys t))
 
 -- What is refused of a file: of `comp`, of each port in order, of each client in order, and then the first other key.
-abbrev pub refused : Data → Option (List ℕ)
+abbrev pub refused : Data → Option Refused
 refused file =
     let ports = tables_at (codes "port") file in
     let clients = tables_at (codes "client") file in
-    option_or (first_broken gateway_rules file)
+    option_or (in_table Top (first_broken gateway_rules file))
     (option_or (refused_among (codes "port") 16 refused_port ports)
     (option_or (refused_among (codes "client") 64 (refused_client ports) clients)
-    (first_other file_keys file)))
+    (in_table Top (first_other file_keys file))))

@@ -9,8 +9,8 @@ ghost use Rattle.settings_file.specs.Judged.{Judges};
 ghost use Rattle.settings_file.specs.Rules as rules;
 ghost use Rattle.settings_file.specs.Rules.{is_letter_of, refused_client};
 
-use crate::fault::{SettingsFault, refusal};
-use crate::keys::first_other;
+use crate::fault::{SettingsFault, SettingsTable, refusal_of};
+use crate::keys::{first_other, number_behind};
 use crate::texts::{firm, is_this, letter, own_address, own_name, port_name};
 use gate_law::Text;
 use gate_settings::{ClientSettings, ClientTerms};
@@ -39,29 +39,30 @@ pub fn read_client(
     ensures listen { IfOk result (λ client.
         string_bytes client.listen ≡ text_at (codes "listen") (view table.now)) }
 {
+    let place = SettingsTable::Client(number_behind(earlier));
     let Some(comp) = own_name(earlier, table, "comp") else {
-        return Err(refusal(alloc, "comp"));
+        return Err(refusal_of(alloc, place, "comp"));
     };
     let Some(listen) = own_address(earlier, table, "listen") else {
-        return Err(refusal(alloc, "listen"));
+        return Err(refusal_of(alloc, place, "listen"));
     };
     let Some(port) = port_name(ports, table) else {
-        return Err(refusal(alloc, "port"));
+        return Err(refusal_of(alloc, place, "port"));
     };
     let Some(firm) = firm(table) else {
-        return Err(refusal(alloc, "firm"));
+        return Err(refusal_of(alloc, place, "firm"));
     };
     let Some(capacity) = letter(table, "capacity", b"APR") else {
-        return Err(refusal(alloc, "capacity"));
+        return Err(refusal_of(alloc, place, "capacity"));
     };
     let Some(customer) = letter(table, "customer", b"RN ") else {
-        return Err(refusal(alloc, "customer"));
+        return Err(refusal_of(alloc, place, "customer"));
     };
     let keys = [
         "comp", "listen", "port", "firm", "capacity", "customer", "from",
     ];
     if let Some(key) = first_other(table, &keys) {
-        return Err(refusal(alloc, key));
+        return Err(refusal_of(alloc, place, key));
     }
     let terms = terms_of(number_of(ports, port), firm, capacity, customer);
     Ok(entry(alloc, comp, listen, terms)?)

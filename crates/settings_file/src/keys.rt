@@ -45,3 +45,10 @@ fn is_one_of(key: &str, keys: &[&str]) -> bool
 {
     keys.iter().any(|known| key == *known)
 }
+
+/// The number, from 1, of the table behind these.
+pub fn number_behind(earlier: &[Value]) -> usize
+    ensures { result ≡ rules.number_behind (map view earlier.now) }
+{
+    earlier.len() + 1
+}

@@ -16,6 +16,6 @@ mod reading;
 mod texts;
 
 pub use example::EXAMPLE;
-pub use fault::SettingsFault;
+pub use fault::{Refusal, SettingsFault, SettingsTable};
 pub use gate_settings::Settings;
 pub use reading::{SettingsFile, read};

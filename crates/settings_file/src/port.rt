@@ -6,8 +6,8 @@ ghost use Rattle.settings_file.specs.File.{login_at, login_of, text_at};
 ghost use Rattle.settings_file.specs.Judged.{Judges};
 ghost use Rattle.settings_file.specs.Rules.{refused_port};
 
-use crate::fault::{SettingsFault, refusal};
-use crate::keys::first_other;
+use crate::fault::{SettingsFault, SettingsTable, refusal_of};
+use crate::keys::{first_other, number_behind};
 use crate::texts::{address, own_name, password, user};
 use gate_settings::PortSettings;
 use std::alloc::{AllocError, Global};
@@ -30,20 +30,21 @@ pub fn read_port(
     ensures settings { IfOk result (λ port. port.settings ≡ login_at (view table.now)) }
     ensures address { IfOk result (λ port. string_bytes port.address ≡ text_at (codes "address") (view table.now)) }
 {
+    let place = SettingsTable::Port(number_behind(earlier));
     let Some(_name) = own_name(earlier, table, "name") else {
-        return Err(refusal(alloc, "name"));
+        return Err(refusal_of(alloc, place, "name"));
     };
     let Some(address) = address(table, "address") else {
-        return Err(refusal(alloc, "address"));
+        return Err(refusal_of(alloc, place, "address"));
     };
     let Some(user) = user(table) else {
-        return Err(refusal(alloc, "user"));
+        return Err(refusal_of(alloc, place, "user"));
     };
     let Some(password) = password(table) else {
-        return Err(refusal(alloc, "password"));
+        return Err(refusal_of(alloc, place, "password"));
     };
     if let Some(key) = first_other(table, &["name", "address", "user", "password"]) {
-        return Err(refusal(alloc, key));
+        return Err(refusal_of(alloc, place, key));
     }
     Ok(entry(alloc, user, password, address)?)
 }

@@ -9,12 +9,12 @@ ghost use Rattle.toml.specs.Data.{Members, as_table, table};
 ghost use Rattle.toml.specs.Parse.{parse_document};
 ghost use Rattle.toml.specs.View.{array_view, view};
 ghost use Rattle.settings_file.specs.File.{WhatIsNotRefusedIsServed, client_at, file_settings, login_at, text_at};
-ghost use Rattle.settings_file.specs.Judged.{Judges};
+ghost use Rattle.settings_file.specs.Judged.{IsNoToml, Judges};
 ghost use Rattle.settings_file.specs.Rules as rules;
 ghost use Rattle.settings_file.specs.Rules.{refused};
 
 use crate::client::{ClientEntry, read_client};
-use crate::fault::{SettingsFault, refusal};
+use crate::fault::{SettingsFault, SettingsTable, refusal_of};
 use crate::keys::first_other;
 use crate::port::{PortEntry, read_port};
 use crate::texts::{is_between, own_name};
@@ -50,11 +50,12 @@ impl Model for SettingsFile {
 
 /// Reads a settings file: a text in TOML.
 ///
-/// Refused by the first key that is missing or wrong, in this order: `comp`; `port`, where there aren't 1 to 16 tables
-/// of ports; of each port `name`, `address`, `user`, `password` and then any other key; `client`, where there aren't 1
-/// to 64 tables of clients; of each client `comp`, `listen`, `port`, `firm`, `capacity`, `customer` and then any other
-/// key; any other key of the whole. Other keys come in byte order; `day`, `control` and a client's `from` are the
-/// operator's (`operator_settings`), whatever they say. `toml` is refused of a text that isn't TOML.
+/// Refused by the first key that is missing or wrong, with its table, in this order: `comp`; `port`, where there aren't
+/// 1 to 16 tables of ports; of each port `name`, `address`, `user`, `password` and then any other key; `client`, where
+/// there aren't 1 to 64 tables of clients; of each client `comp`, `listen`, `port`, `firm`, `capacity`, `customer` and
+/// then any other key; any other key of the whole. Other keys come in byte order; `day`, `control` and a client's
+/// `from` are the operator's (`operator_settings`), whatever they say. A text that isn't TOML is refused by the line on
+/// which that shows.
 ///
 /// Source: TOML 1.1; the keys are this gateway's own.
 pub fn read(alloc: Global, text: &[u8]) -> Result<SettingsFile, SettingsFault>
@@ -62,20 +63,28 @@ pub fn read(alloc: Global, text: &[u8]) -> Result<SettingsFile, SettingsFault>
         → Judges (refused (table ms)) result }
     ensures settings { (ms : Members) → IsUtf8 text.now → parse_document text.now ≡ Some ms
         → IfOk result (λ file. file ≡ file_settings (table ms)) }
-    ensures toml { (IsUtf8 text.now → parse_document text.now ≡ None) → Judges (Some (codes "toml")) result }
+    ensures toml { (IsUtf8 text.now → parse_document text.now ≡ None) → IsNoToml text.now result }
     ensures served { IfOk result (λ file. is_served file.settings ≡ true) }
     ensures law { WhatIsNotRefusedIsServed }
 {
     match toml::table_from_slice(alloc, text) {
         Ok(members) => read_file(alloc, &Value::Table(members)),
         Err(error) => {
-            if error.is_memory() {
-                Err(SettingsFault::NoMemory)
-            } else {
-                Err(refusal(alloc, "toml"))
+            match error.span() {
+                None => Err(SettingsFault::NoMemory),
+                Some(span) => Err(SettingsFault::NotToml(line_at(text, span.start))),
             }
         }
     }
+}
+
+/// The line, from 1, on which this place of a text is.
+fn line_at(text: &[u8], place: usize) -> usize
+    requires within { place ≤ length text.now }
+    ensures { result ≡ rules.line_at place text.now }
+{
+    let ended = text[..place].iter().filter(|byte| **byte == b'\n').count();
+    ended + 1
 }
 
 /// Reads what a text in TOML says.
@@ -84,20 +93,20 @@ fn read_file(alloc: Global, file: &Value) -> Result<SettingsFile, SettingsFault>
     ensures settings { IfOk result (λ read. read ≡ file_settings (view file.now)) }
 {
     let Some(comp) = own_name(&[], file, "comp") else {
-        return Err(refusal(alloc, "comp"));
+        return Err(refusal_of(alloc, SettingsTable::Top, "comp"));
     };
     let port_tables = tables_at(file, "port");
     if !are_tables(16, port_tables) {
-        return Err(refusal(alloc, "port"));
+        return Err(refusal_of(alloc, SettingsTable::Top, "port"));
     }
     let ports = read_ports(alloc, port_tables)?;
     let client_tables = tables_at(file, "client");
     if !are_tables(64, client_tables) {
-        return Err(refusal(alloc, "client"));
+        return Err(refusal_of(alloc, SettingsTable::Top, "client"));
     }
     let clients = read_clients(alloc, port_tables, client_tables)?;
     if let Some(key) = first_other(file, &["comp", "port", "client", "day", "control"]) {
-        return Err(refusal(alloc, key));
+        return Err(refusal_of(alloc, SettingsTable::Top, key));
     }
     let comp = Text::copied(alloc, comp.as_bytes())?;
     Ok(SettingsFile {

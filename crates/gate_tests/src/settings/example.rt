@@ -9,8 +9,8 @@ use std::test::Fail;
 fn example(alloc: Global) -> Result<SettingsFile, Fail> {
     match read(alloc, EXAMPLE.as_bytes()) {
         Ok(file) => Ok(file),
-        Err(SettingsFault::Refused(_)) => Err("the example is read")?,
         Err(SettingsFault::NoMemory) => Err("out of memory")?,
+        Err(_) => Err("the example is read")?,
     }
 }
 

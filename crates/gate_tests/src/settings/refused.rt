@@ -1,6 +1,6 @@
 //! Files that lack a key or have one that isn't known.
 
-use super::texts::{GOOD, is_read, is_refused_with, refused_key};
+use super::texts::{GOOD, is_read, is_refused_with, refused_by};
 use std::test::Fail;
 
 /// Each line of `GOOD` with a key, and its key.
@@ -44,20 +44,41 @@ fn an_unknown_key_in_each_table(rt: HostRuntime) -> Result<(), Fail> {
     Ok(())
 }
 
-/// Texts that aren't TOML.
-const NO_TOML: [&[u8]; 4] = [
-    b"comp =\n",
-    b"comp = \"GATE\"\ncomp = \"GATE\"\n",
-    b"comp = \"GATE\n",
-    b"# \xff\n",
+/// Texts that aren't TOML, and texts with a key that is missing or wrong, each with what it is refused by: the line, or
+/// the key with its table.
+const NAMED: [(&[u8], &str); 11] = [
+    (b"comp =\n", "line 1"),
+    (b"comp = \"GATE\"\ncomp = \"GATE\"\n", "line 2"),
+    (b"\ncomp = \"GATE\n", "line 2"),
+    (b"# a\n\n# \xff\n", "line 3"),
+    (b"comp = ''", "comp"),
+    (b"comp = 'G'", "port"),
+    (b"comp = 'G'\n[[port]]\nname = 'P'\n", "port[1].address"),
+    (
+        b"comp = 'G'\nport = [{name = 'P', address = 'h:1', user = 'U', password = ''}, {name = 'Q'}]",
+        "port[2].address",
+    ),
+    (
+        b"comp = 'G'\nport = [{name = 'P', address = 'h:1', user = 'U', password = '', a = 1}]",
+        "port[1].a",
+    ),
+    (
+        b"comp = 'G'\nport = [{name = 'P', address = 'h:1', user = 'U', password = ''}]\nclient = [{}]",
+        "client[1].comp",
+    ),
+    (
+        b"comp = 'G'\nport = [{name = 'P', address = 'h:1', user = 'U', password = ''}]\nclient = [\
+{comp = 'A', listen = 'h:2', port = 'P', firm = 'F', capacity = 'A', customer = 'R'}, {comp = 'B', listen = 'h:2'}]",
+        "client[2].listen",
+    ),
 ];
 
 #[test]
-fn a_text_that_is_no_toml(rt: HostRuntime) -> Result<(), Fail> {
+fn what_a_text_is_refused_by(rt: HostRuntime) -> Result<(), Fail> {
     let alloc = rt.alloc();
-    for text in &NO_TOML {
-        let key = refused_key(alloc, text)?.ok_or("it is refused")?;
-        assert!(rt; key.as_str() == "toml");
+    for (text, named) in &NAMED {
+        let refused = refused_by(alloc, text)?.ok_or("it is refused")?;
+        assert!(rt; refused.as_str() == *named, "{named}: {refused}");
     }
     Ok(())
 }

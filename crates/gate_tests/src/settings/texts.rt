@@ -62,7 +62,18 @@ pub fn is_read(alloc: Global, text: &str) -> Result<bool, Fail> {
 pub fn refused_key(alloc: Global, text: &[u8]) -> Result<Option<String>, Fail> {
     match read(alloc, text) {
         Ok(_) => Ok(None),
-        Err(SettingsFault::Refused(key)) => Ok(Some(key)),
+        Err(SettingsFault::Refused(refusal)) => Ok(Some(refusal.key)),
+        Err(SettingsFault::NotToml(_)) => Ok(Some(String::from_str(alloc, "toml")?)),
+        Err(SettingsFault::NoMemory) => Err("out of memory")?,
+    }
+}
+
+/// What a text is refused by: a key with its table, or a line; nothing where it is read.
+pub fn refused_by(alloc: Global, text: &[u8]) -> Result<Option<String>, Fail> {
+    match read(alloc, text) {
+        Ok(_) => Ok(None),
+        Err(SettingsFault::Refused(refusal)) => Ok(Some(format!(in alloc; "{refusal}")?)),
+        Err(SettingsFault::NotToml(line)) => Ok(Some(format!(in alloc; "line {line}")?)),
         Err(SettingsFault::NoMemory) => Err("out of memory")?,
     }
 }
