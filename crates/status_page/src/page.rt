@@ -11,7 +11,8 @@ use fix_stamp::stamp;
 use status_board::Shown;
 use std::alloc::{AllocError, Global};
 
-/// What stands before the body. It fetches nothing, and asks for the page anew each five seconds.
+/// What stands before the body. It fetches nothing, and asks for the page anew each five seconds. On a narrow screen
+/// each row of a table is a block of three columns, and each cell has its column's name above it.
 const HEAD: &str = "<!doctype html><html lang=\"en\"><meta charset=\"utf-8\">\
 <meta name=\"viewport\" content=\"width=device-width\"><meta http-equiv=\"refresh\" content=\"5\">\
 <title>gateway</title><style>\
@@ -26,7 +27,17 @@ th,td{padding:5px 14px 5px 0;border-bottom:1px solid var(--line);vertical-align:
 .n{text-align:right;font-variant-numeric:tabular-nums}.g{color:var(--good)}.b{color:var(--bad);font-weight:600}\
 .w{color:var(--warn);font-weight:600}.d{color:var(--dim)}\
 .alarm{background:var(--soft);border-left:4px solid var(--bad);padding:8px 12px;margin:10px 0}\
-@media(max-width:560px){body{font-size:13px;padding:12px}th,td{padding:5px 8px 5px 0}th{white-space:normal}}\
+@media(max-width:560px){body{font-size:13px;padding:12px}.t table,.t tbody{display:block}.t tr:first-child{display:none}\
+.t tr{display:grid;grid-template-columns:repeat(3,1fr);padding:6px 0;border-bottom:1px solid var(--line)}\
+.t td{border:0;padding:2px 8px 2px 0;white-space:normal;overflow-wrap:anywhere;text-align:left}\
+.t td::before{display:block;font-size:11px;font-weight:400;color:var(--dim);content:\"client\"}\
+.t td:nth-child(2)::before{content:\"name\"}.t td:nth-child(3)::before{content:\"session\"}\
+.t td:nth-child(4)::before{content:\"link\"}.t td:nth-child(5)::before{content:\"open orders\"}\
+.t td:nth-child(6)::before{content:\"executed\"}.t td:nth-child(7)::before{content:\"value\"}\
+.t td:nth-child(8)::before{content:\"next in\"}.t td:nth-child(9)::before{content:\"next out\"}\
+.t~.t td::before{content:\"port\"}.t~.t td:nth-child(2)::before{content:\"address\"}\
+.t~.t td:nth-child(3)::before{content:\"session\"}.t~.t td:nth-child(4)::before{content:\"reason\"}\
+.t~.t td:nth-child(5)::before{content:\"link\"}.t~.t td:nth-child(6)::before{content:\"next\"}}\
 </style>";
 
 /// What stands behind it.
