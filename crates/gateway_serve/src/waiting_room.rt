@@ -9,7 +9,7 @@ use link_sockets::{SocketCloser, SocketReader, SocketWriter, link_of};
 use operator_settings::{AddressRange, admit};
 use std::alloc::Global;
 use std::fmt::{Display, Formatter};
-use std::io::ErrorKind;
+use std::io::{Error, ErrorKind};
 use std::net::{Net, SocketAddr, TcpListener, TcpStream};
 use std::sync::atomic::{AtomicBool, Ordering};
 use std::time::{Clock, Duration, Instant};
@@ -64,6 +64,8 @@ pub(crate) struct WaitingRoom<'a, R> {
     is_closed: bool,
     in_vain: u64,
     foreign: u64,
+    /// Whether the last who connected couldn't be taken, which is told already.
+    is_refused: bool,
 }
 
 impl<'a, R: Clock + Eprint> WaitingRoom<'a, R> {
@@ -90,6 +92,7 @@ impl<'a, R: Clock + Eprint> WaitingRoom<'a, R> {
             is_closed: false,
             in_vain: 0,
             foreign: 0,
+            is_refused: false,
         }
     }
 
@@ -98,14 +101,34 @@ impl<'a, R: Clock + Eprint> WaitingRoom<'a, R> {
         ensures same { self.new.opened ≡ self.old.opened }
     {
         for _ in 0..AT_A_LOOK {
-            let Ok((stream, peer)) = self.listener.accept() else {
-                return;
+            let (stream, peer) = match self.listener.accept() {
+                Ok(taken) => taken,
+                Err(error) => {
+                    self.tell_refusal(&error);
+                    return;
+                }
             };
+            self.is_refused = false;
             if admit(self.from, &peer.ip()) {
                 self.take(stream, peer);
             } else {
                 self.foreign = self.foreign.saturating_add(1);
             }
+        }
+    }
+
+    /// Tells why nobody can be taken though somebody has connected: descriptors are used up, say. It is told once, until
+    /// somebody is taken again.
+    fn tell_refusal(&mut self, error: &Error)
+        ensures same { self.new.opened ≡ self.old.opened }
+    {
+        let is_told = match error.kind() {
+            ErrorKind::WouldBlock | ErrorKind::Interrupted | ErrorKind::ConnectionAborted => true,
+            _ => self.is_refused,
+        };
+        if !is_told {
+            self.is_refused = true;
+            self.teller.tell_of(&NotTaken { error });
         }
     }
 
@@ -198,6 +221,18 @@ fn looked<R: Clock>(rt: &R, silent: &Silent) -> Look {
             },
             _ => Look::Gone,
         },
+    }
+}
+
+/// That nobody who connects can be taken.
+struct NotTaken<'a> {
+    error: &'a Error,
+}
+
+impl<'a> Display for NotTaken<'a> {
+    fn fmt<W: fmt::Write>(&self, f: &mut Formatter<W>) -> fmt::Result {
+        let error = self.error;
+        write!(f, "cannot accept: {error}")
     }
 }
 
