@@ -117,8 +117,8 @@ impl<'a, R: Clock + Eprint> WaitingRoom<'a, R> {
         }
     }
 
-    /// Tells why nobody can be taken though somebody has connected: descriptors are used up, say. It is told once, until
-    /// somebody is taken again.
+    /// Tells why nobody can be taken though somebody has connected: descriptors are used up, say. It is told once,
+    /// until somebody is taken again.
     fn tell_refusal(&mut self, error: &Error)
         ensures same { self.new.opened ≡ self.old.opened }
     {
