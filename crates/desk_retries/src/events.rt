@@ -13,6 +13,14 @@ pub fn up() -> Event {
     }
 }
 
+/// Time passes for it.
+pub fn tick() -> Event {
+    Event::ClientTick {
+        client: ClientNumber::new(1),
+        at: 0,
+    }
+}
+
 /// Its message of this type and number, with these fields behind the header.
 ///
 /// Source: FIX 4.4 Volume 2, "Standard Message Header".

@@ -1,18 +1,23 @@
-//! The ring of a client that takes nothing.
+//! The ring of a client that takes nothing, and the clock's, which isn't turned for.
 
 ghost use Rattle.std.specs.Prelude.{◌≡◌};
 
-use crate::events::{message, up};
-use desk::{DeskName, Finished, Inlet, Outlet, Parts, Shared, open_desk};
-use gate_core::{Event, LinkOut};
+use crate::events::{message, tick, up};
+use desk::{Closed, DeskName, Finished, Inlet, Outlet, Parts, Shared, open_desk};
+use gate_core::{ClientNumber, Event, LinkOut};
+use script_steps::{History, Source};
 use std::alloc::{AllocError, Global};
 use std::sync::Wait;
 
 /// Behind the last message's number, which is one more than the ring has room for.
 const END: u32 = 1_026;
 
-/// A client logs on and sends test requests, a turn after each, and takes nothing until one is held. Shows what each
-/// turn did that didn't step one event, what the client was told, and how many events the history has.
+/// How many events a ring has room for.
+const ROOM: u32 = 1_024;
+
+/// A client logs on and sends test requests, a turn after each, and takes nothing until one is held; time goes on
+/// meanwhile. Then it takes all, and the clock's ring is filled with no turn between. Shows what each turn did that
+/// didn't step one event, what the client was told, what was given back, and how many events the history has.
 ///
 /// A turn that memory ran out for is made again, and so is the close.
 pub fn fill<K: DeskName, R: Wait>(
@@ -28,7 +33,7 @@ pub fn fill<K: DeskName, R: Wait>(
     close(alloc, shared, inlets, outlets, shown)
 }
 
-/// Fills the first client's ring, and takes what lies there.
+/// Fills the first client's ring, takes what lies there, and fills the clock's.
 fn play<K: DeskName, R: Wait>(
     rt: &R,
     alloc: Global,
@@ -37,13 +42,54 @@ fn play<K: DeskName, R: Wait>(
     outlets: &mut [Outlet<K>],
     shown: &mut Vec<u8>,
 ) -> Result<(), AllocError> {
+    show(shown, b"inlets ", inlets.len() as u64)?;
     if let Some(client) = inlets.first_mut() {
         put_all(rt, alloc, shared, client, shown)?;
     }
-    match outlets.first_mut() {
-        Some(client) => take_all(rt, alloc, shared, client, shown),
+    if let Some(clock) = inlets.last_mut() {
+        tick_beside(rt, alloc, shared, clock, shown)?;
+    }
+    if let Some(client) = outlets.first_mut() {
+        take_all(rt, alloc, shared, client, shown)?;
+    }
+    match inlets.last_mut() {
+        Some(clock) => fill_clock(rt, alloc, shared, clock, shown),
         None => Ok(()),
     }
+}
+
+/// Time goes on while an event is held.
+fn tick_beside<K: DeskName, R: Wait>(
+    rt: &R,
+    alloc: Global,
+    shared: &Shared<K>,
+    clock: &mut Inlet<K>,
+    shown: &mut Vec<u8>,
+) -> Result<(), AllocError> {
+    for _ in 0..3 {
+        put_and_turn(rt, alloc, shared, clock, tick(), shown)?;
+    }
+    Ok(())
+}
+
+/// The clock's ring takes as many ticks as it has room for, and one more once one was stepped. Then all are.
+fn fill_clock<K: DeskName, R: Wait>(
+    rt: &R,
+    alloc: Global,
+    shared: &Shared<K>,
+    clock: &mut Inlet<K>,
+    shown: &mut Vec<u8>,
+) -> Result<(), AllocError> {
+    show(shown, b"place ", clock.position() as u64)?;
+    for _ in 0..=ROOM {
+        put(clock, tick(), shown)?;
+    }
+    turn(rt, alloc, shared, shown)?;
+    put(clock, tick(), shown)?;
+    for _ in 0..=ROOM {
+        turn(rt, alloc, shared, shown)?;
+    }
+    Ok(())
 }
 
 /// The link is up, a Logon, and test requests.
@@ -89,10 +135,20 @@ fn put_and_turn<K: DeskName, R: Wait>(
     event: Event,
     shown: &mut Vec<u8>,
 ) -> Result<(), AllocError> {
-    if event.is_from(&inlet.source()) && inlet.put(event).is_err() {
-        shown.extend_from_slice(b"given back\n")?;
-    }
+    put(inlet, event, shown)?;
     turn(rt, alloc, shared, shown)
+}
+
+/// Puts an event of the inlet's source, and shows that it was given back.
+fn put<K: DeskName>(
+    inlet: &mut Inlet<K>,
+    event: Event,
+    shown: &mut Vec<u8>,
+) -> Result<(), AllocError> {
+    if event.is_from(&inlet.source()) && inlet.put(event).is_err() {
+        return shown.extend_from_slice(b"given back\n");
+    }
+    Ok(())
 }
 
 /// Turns, once more where memory ran out, and shows what was done where it isn't one step.
@@ -106,6 +162,9 @@ fn turn<K: DeskName, R: Wait>(
         Ok(turned) => turned,
         Err(_) => shared.turn(rt, alloc)?,
     };
+    if turned.refused != 0 {
+        show(shown, b"refused ", u64::from(turned.refused))?;
+    }
     if turned.steps == 1 && turned.held == 0 {
         return Ok(());
     }
@@ -127,7 +186,7 @@ fn show_next<K: DeskName>(outlet: &mut Outlet<K>, shown: &mut Vec<u8>) -> Result
     shown.extend_from_slice(b"\n")
 }
 
-/// Finishes all ends and closes the desk. Shows how many events the history has.
+/// Finishes all ends and closes the desk. Shows what its history has.
 fn close<K: DeskName>(
     alloc: Global,
     shared: Shared<K>,
@@ -136,8 +195,19 @@ fn close<K: DeskName>(
     shown: &mut Vec<u8>,
 ) -> Result<(), AllocError> {
     let finished = finished_of(alloc, inlets, outlets)?;
-    let events = events_of(alloc, shared, finished)?;
-    show(shown, b"events ", events)
+    let history = history_of(alloc, shared, finished)?;
+    count_events(alloc, &history, shown)
+}
+
+/// Shows how many events a history has, and of whom.
+fn count_events(alloc: Global, history: &History, shown: &mut Vec<u8>) -> Result<(), AllocError> {
+    let client = Source::Client(ClientNumber::new(1));
+    let all = history.events(alloc)?.len();
+    let of_client = history.from(alloc, client)?.len();
+    let of_clock = history.from(alloc, Source::Clock)?.len();
+    show(shown, b"events ", all as u64)?;
+    show(shown, b"of the client ", of_client as u64)?;
+    show(shown, b"of the clock ", of_clock as u64)
 }
 
 /// What was put and taken.
@@ -158,19 +228,30 @@ fn finished_of<K: DeskName>(
     Ok(finished)
 }
 
-/// Closes the desk, once more where memory ran out, and counts the events of its history.
-fn events_of<K: DeskName>(
+/// The history of a desk that is closed, once more where memory ran out.
+fn history_of<K: DeskName>(
     alloc: Global,
     shared: Shared<K>,
     finished: Vec<Finished<K>>,
-) -> Result<u64, AllocError> {
+) -> Result<History, AllocError> {
     match shared.close(alloc, finished) {
-        Ok(closed) => Ok(closed.history.events(alloc)?.len() as u64),
+        Ok(closed) => Ok(kept_by(closed)),
         Err((_, shared, finished)) => match shared.close(alloc, finished) {
-            Ok(closed) => Ok(closed.history.events(alloc)?.len() as u64),
+            Ok(closed) => Ok(kept_by(closed)),
             Err((error, _, _)) => Err(error),
         },
     }
+}
+
+/// The history that a closed desk kept.
+fn kept_by(closed: Closed) -> History {
+    let Closed {
+        history,
+        settings: _,
+        journal: _,
+        lost: _,
+    } = closed;
+    history
 }
 
 /// Adds a word and a number.

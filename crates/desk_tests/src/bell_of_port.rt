@@ -3,7 +3,6 @@
 use super::bells::{is_not_rung, is_rung};
 use super::ends::step;
 use super::events::{logon, message, test_request, up};
-use super::lent::{Borrower, lend};
 use desk::{DeskName, Inlet, Shared};
 use gate_events::PortNumber;
 use script_steps::Event;
@@ -32,11 +31,6 @@ const ACCEPTED: &[u8; 30] = b"SESSION001                   1";
 
 /// An order that its port is asked rings the port's bell and not its client's: the report that it waits goes out with
 /// what the client is told next, or once what waits is rung for.
-#[test]
-fn an_order_rings_its_port(rt: HostRuntime) -> Result<(), Fail> {
-    lend(&rt, rt.alloc(), Borrower::AnOrderRingsItsPort)
-}
-
 pub fn rings_port<K: DeskName, R: Wait + Abort + Clock>(
     rt: &R,
     alloc: Global,

@@ -2,7 +2,6 @@
 
 use super::ends::step;
 use super::events::put;
-use super::lent::{Borrower, lend};
 use desk::{DeskName, Inlet, Shared, Turns};
 use script_steps::{ClientNumber, Event};
 use std::alloc::{AllocError, Global};
@@ -12,11 +11,6 @@ use std::test::Fail;
 use std::time::{Clock, Duration, Instant};
 
 /// A turn rings the bell of the outlet that it told something, and no other.
-#[test]
-fn rings_one(rt: HostRuntime) -> Result<(), Fail> {
-    lend(&rt, rt.alloc(), Borrower::RingsOne)
-}
-
 pub fn rings<K: DeskName, R: Wait + Abort + Clock>(
     rt: &R,
     alloc: Global,
@@ -29,11 +23,6 @@ pub fn rings<K: DeskName, R: Wait + Abort + Clock>(
 }
 
 /// Turns ring the bell of the outlet that they told something, and end at one that makes no step.
-#[test]
-fn turns_ring_one(rt: HostRuntime) -> Result<(), Fail> {
-    lend(&rt, rt.alloc(), Borrower::TurnsRingOne)
-}
-
 pub fn rings_by_turns<K: DeskName, R: Wait + Abort + Clock>(
     rt: &R,
     alloc: Global,

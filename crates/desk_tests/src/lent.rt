@@ -4,7 +4,6 @@ ghost use Rattle.std.specs.Prelude.{◌≡◌};
 
 use super::bell_of_port::rings_port;
 use super::bells::{rings, rings_by_turns};
-use super::full_rings::{fill_with_ticks, goes_on};
 use desk::{DeskName, Inlet, Parts, Shared, open_desk};
 use script_steps::fixed_settings;
 use std::alloc::{AllocError, Global};
@@ -14,14 +13,28 @@ use std::sync::Wait;
 use std::test::Fail;
 use std::time::Clock;
 
-/// What a desk is lent for: the tests of one thread alone, which leave its outlets untouched.
+/// What a desk is lent for: bells, which one thread alone looks at.
 #[derive(Clone, Copy)]
-pub enum Borrower {
+enum Borrower {
     RingsOne,
     TurnsRingOne,
     AnOrderRingsItsPort,
-    TicksAndOneMore,
-    TimeGoesOn,
+}
+
+const BORROWERS: [(&str, Borrower); 3] = [
+    ("a turn rings one bell", Borrower::RingsOne),
+    ("turns ring one bell", Borrower::TurnsRingOne),
+    ("an order rings its port", Borrower::AnOrderRingsItsPort),
+];
+
+/// The last name that is told is that of the row that failed.
+#[test]
+fn bells_of_outlets(rt: HostRuntime) -> Result<(), Fail> {
+    for (name, borrower) in &BORROWERS {
+        let _ = rt.eprintln(name);
+        lend(&rt, rt.alloc(), *borrower)?;
+    }
+    Ok(())
 }
 
 /// A core and rings of the fixed settings: three clients on two ports.
@@ -30,11 +43,7 @@ pub fn fixed_parts(alloc: Global) -> Result<Parts, AllocError> {
 }
 
 /// Opens a desk of the fixed settings, and lends it to a test.
-pub fn lend<R: Wait + Abort + Clock>(
-    rt: &R,
-    alloc: Global,
-    borrower: Borrower,
-) -> Result<(), Fail> {
+fn lend<R: Wait + Abort + Clock>(rt: &R, alloc: Global, borrower: Borrower) -> Result<(), Fail> {
     let parts = fixed_parts(alloc)?;
     open_and_lend::<Brand, R>(rt, alloc, parts, borrower)
 }
@@ -62,7 +71,5 @@ fn look<K: DeskName, R: Wait + Abort + Clock>(
         Borrower::RingsOne => rings(rt, alloc, shared, inlets),
         Borrower::TurnsRingOne => rings_by_turns(rt, alloc, shared, inlets),
         Borrower::AnOrderRingsItsPort => rings_port(rt, alloc, shared, inlets),
-        Borrower::TicksAndOneMore => fill_with_ticks(rt, alloc, shared, inlets),
-        Borrower::TimeGoesOn => goes_on(rt, alloc, shared, inlets),
     }
 }

@@ -10,8 +10,6 @@ mod ends;
 #[cfg(test)]
 mod events;
 #[cfg(test)]
-mod full_rings;
-#[cfg(test)]
 mod lent;
 #[cfg(test)]
 mod threads;

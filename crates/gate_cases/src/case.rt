@@ -2,11 +2,23 @@
 
 use crate::again::run_again;
 use crate::between::{Named, push_line};
-use gate_lines::{Flags, run_script, run_script_with};
+use crate::said::push_said;
+use gate_lines::{Flags, audit_script, run_script, run_script_with};
 use other_hashers::{Nothing, Seeded};
 use std::alloc::{AllocError, Global};
 use std::hash::BuildHasher;
 use std::io::{self, Write};
+
+/// What is done with a script.
+#[derive(Clone, Copy, PartialEq)]
+enum Task {
+    /// It is run, in each way.
+    Run,
+    /// It is run, and is too long for keys that all collide, and for lines of others between its own.
+    RunLong,
+    /// It is audited.
+    Audit,
+}
 
 /// A script, and what it has to print and to tell.
 #[derive(Drop)]
@@ -18,6 +30,7 @@ pub struct Case {
     /// What has to end it, where it isn't its own end.
     told: Vec<u8>,
     flags: Flags,
+    task: Task,
     /// Whether each line so far was one of a case, and each single line that isn't to be understood wasn't.
     is_right: bool,
 }
@@ -35,6 +48,7 @@ impl Case {
                 raw: false,
                 cold: false,
             },
+            task: Task::Run,
             is_right: true,
         }
     }
@@ -68,24 +82,24 @@ impl Case {
             return Ok(());
         }
         if let Some(text) = line.strip_prefix(b"-> ") {
-            return push_line(&mut self.wanted, text);
+            return push_said(&mut self.wanted, text);
         }
         if let Some(text) = line.strip_prefix(b"!! ") {
             return push_line(&mut self.told, text);
         }
         if let Some(text) = line.strip_prefix(b"?? ") {
             let told = b"line 1: not understood\n";
-            self.is_right = self.is_right && has_run(alloc, self.flags, text, b"", told);
+            self.is_right = self.is_right && has_run(alloc, self.flags, false, text, b"", told);
             return Ok(());
         }
         if let Some(text) = line.strip_prefix(b"-- ") {
             self.flag(text);
             return Ok(());
         }
-        push_line(&mut self.script, line)
+        push_said(&mut self.script, line)
     }
 
-    /// Takes the name of a flag. A name of none makes the case wrong.
+    /// Takes the name of a flag, or of what is done. A name of none makes the case wrong.
     fn flag(&mut self, name: &[u8]) {
         if name == b"num".as_slice() {
             self.flags.num = true;
@@ -93,6 +107,10 @@ impl Case {
             self.flags.raw = true;
         } else if name == b"cold".as_slice() {
             self.flags.cold = true;
+        } else if name == b"long".as_slice() {
+            self.task = Task::RunLong;
+        } else if name == b"audit".as_slice() {
+            self.task = Task::Audit;
         } else {
             self.is_right = false;
         }
@@ -109,8 +127,9 @@ impl Case {
         if self.name.is_empty() {
             return Ok(());
         }
+        let is_mixed = is_mixed && self.task == Task::Run;
         let is_right = self.is_right
-            && self.has_run(alloc)
+            && self.has_come(alloc)
             && (!is_mixed || self.is_same_again(alloc) && self.is_apart(alloc)?);
         output.write_all(self.name.as_slice())?;
         output.write_all(if is_right {
@@ -120,15 +139,15 @@ impl Case {
         })
     }
 
-    /// Whether the script prints what it has to, and ends as it is to.
-    fn has_run(&self, alloc: Global) -> bool {
-        has_run(
-            alloc,
-            self.flags,
-            self.script.as_slice(),
-            self.wanted.as_slice(),
-            self.told.as_slice(),
-        )
+    /// Whether the script, or its audit, prints what it has to, and ends as it is to.
+    fn has_come(&self, alloc: Global) -> bool {
+        let (script, wanted) = (self.script.as_slice(), self.wanted.as_slice());
+        let told = self.told.as_slice();
+        match self.task {
+            Task::Run => has_run(alloc, self.flags, false, script, wanted, told),
+            Task::RunLong => has_run(alloc, self.flags, true, script, wanted, told),
+            Task::Audit => is_audited(alloc, script, wanted, told),
+        }
     }
 
     /// Whether it prints the same with each step undone and made again. A script that ends at a line that isn't
@@ -171,9 +190,25 @@ impl Case {
     }
 }
 
-/// Whether a script prints this and ends as it is to, with the fixed seed, with two others, and with a hasher that
-/// answers 0 for everything.
-fn has_run(alloc: Global, flags: Flags, script: &[u8], wanted: &[u8], told: &[u8]) -> bool {
+/// Whether the audit of a script prints this and ends as it is to.
+fn is_audited(alloc: Global, script: &[u8], wanted: &[u8], told: &[u8]) -> bool {
+    let mut input = script;
+    let mut output = Vec::new(alloc);
+    let mut faults = Vec::new(alloc);
+    let status = audit_script(alloc, &mut input, &mut output, &mut faults);
+    has_ended(status, &output, &faults, wanted, told)
+}
+
+/// Whether a script prints this and ends as it is to, with the fixed seed, with two others, and, where it isn't long,
+/// with a hasher that answers 0 for everything.
+fn has_run(
+    alloc: Global,
+    flags: Flags,
+    is_long: bool,
+    script: &[u8],
+    wanted: &[u8],
+    told: &[u8],
+) -> bool {
     let mut input = script;
     let mut output = Vec::new(alloc);
     let mut faults = Vec::new(alloc);
@@ -181,7 +216,7 @@ fn has_run(alloc: Global, flags: Flags, script: &[u8], wanted: &[u8], told: &[u8
     has_ended(status, &output, &faults, wanted, told)
         && has_run_with(alloc, Seeded::of(1), flags, script, wanted, told)
         && has_run_with(alloc, Seeded::of(2), flags, script, wanted, told)
-        && has_run_with(alloc, Nothing, flags, script, wanted, told)
+        && (is_long || has_run_with(alloc, Nothing, flags, script, wanted, told))
 }
 
 /// The same with a hasher.

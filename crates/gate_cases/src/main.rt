@@ -8,6 +8,7 @@
 mod again;
 mod between;
 mod case;
+mod said;
 
 use again::run_again;
 use case::Case;

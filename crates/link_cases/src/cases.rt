@@ -3,6 +3,7 @@
 use crate::endless::read_endless;
 use crate::reading::read_stream;
 use crate::recorded::{Form, stream_of};
+use crate::stepping::Stepped;
 use crate::tally::Tally;
 use crate::writing::write_lists;
 use script_lines::{Line, LineFault, line_of};
@@ -19,11 +20,12 @@ enum Making {
     Lists,
 }
 
-/// What was recorded so far: bodies of frames; type and payload of packets.
+/// What was recorded so far, bodies of frames, and type and payload of packets; and the link that is stepped.
 #[derive(Drop)]
 pub struct Cases {
     bodies: Vec<Vec<u8>>,
     packets: Vec<Vec<u8>>,
+    stepped: Stepped,
 }
 
 impl Cases {
@@ -32,6 +34,7 @@ impl Cases {
         Cases {
             bodies: Vec::new(alloc),
             packets: Vec::new(alloc),
+            stepped: Stepped::new(alloc, 1),
         }
     }
 
@@ -40,7 +43,7 @@ impl Cases {
         if text.is_empty() || text.starts_with(b"#") {
             return Ok(());
         }
-        if self.does(alloc, text, output)? {
+        if self.stepped.does(alloc, text, output)? || self.does(alloc, text, output)? {
             Ok(())
         } else {
             note(text, output)
@@ -171,7 +174,7 @@ fn steps_of(text: &[u8]) -> Option<u64> {
 }
 
 /// What stands before the first space, and behind it.
-fn words_of(text: &[u8]) -> Option<(&[u8], &[u8])> {
+pub fn words_of(text: &[u8]) -> Option<(&[u8], &[u8])> {
     let at = text.iter().position(|byte| *byte == b' ')?;
     Some((&text[..at], &text[at + 1..]))
 }

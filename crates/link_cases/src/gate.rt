@@ -7,6 +7,7 @@ use link_io::{Event, Gate, LinkOut, ShortList};
 use seeded_choices::Chance;
 use std::alloc::{AllocError, Global};
 use std::sync::Wait;
+use std::sync::atomic::{AtomicU64, Ordering};
 
 /// A gate that keeps the events that were put and the lists that were taken. It gives an event back once in so many
 /// times.
@@ -15,10 +16,14 @@ pub struct Kept {
     alloc: Global,
     chance: Chance,
     back_once_in: usize,
+    /// Whether it gives each event back.
+    pub is_full: bool,
     pub events: Vec<Event>,
     /// The lists that lie there, the last one first.
     pub lists: Vec<ShortList<LinkOut>>,
     pub given: Vec<ShortList<LinkOut>>,
+    /// How many bytes of frames it was told.
+    pub sent: AtomicU64,
 }
 
 impl Kept {
@@ -28,9 +33,11 @@ impl Kept {
             alloc,
             chance,
             back_once_in,
+            is_full: false,
             events: Vec::new(alloc),
             lists: Vec::new(alloc),
             given: Vec::new(alloc),
+            sent: AtomicU64::new(0),
         }
     }
 
@@ -52,7 +59,7 @@ impl Gate for Kept {
     ghost was_taken = { λ g. map (λ v. map link_out_seen v.items) g.given.items };
 
     fn put(&mut self, event: Event) -> Result<(), Event> {
-        if self.chance.once_in(self.back_once_in) {
+        if self.is_full || self.chance.once_in(self.back_once_in) {
             return Err(event);
         }
         match self.events.push(event) {
@@ -78,6 +85,10 @@ impl Gate for Kept {
 
     fn turn<R: Wait>(&mut self, _rt: &R, _alloc: Global) -> Result<u32, AllocError> {
         Ok(0)
+    }
+
+    fn tell_sent(&self, frames: &[u8]) {
+        self.sent.fetch_add(frames.len() as u64, Ordering::SeqCst);
     }
 }
 

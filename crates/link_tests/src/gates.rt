@@ -8,12 +8,11 @@ use std::alloc::{AllocError, Global};
 use std::sync::Wait;
 use std::sync::atomic::{AtomicU32, AtomicU64, Ordering};
 
-/// A gate that keeps the events that were put, the lists that were taken, and what it was told of its link. It gives
-/// each event back where it is full, and else so often before it takes it.
+/// A gate that keeps the events that were put, the lists that were taken, and the bytes that it was told were skipped.
+/// It gives each event back so often before it takes it.
 pub struct Kept {
     alloc: Global,
     pub events: Vec<Event>,
-    pub is_full: bool,
     /// How often it gives each event back, and how often yet the next one.
     pub gives_back: u32,
     pub left: u32,
@@ -23,8 +22,6 @@ pub struct Kept {
     /// The last count of skipped bytes that it was told, and how often it was told one.
     pub skipped: AtomicU64,
     pub often: AtomicU32,
-    /// How many bytes of frames it was told.
-    pub sent: AtomicU64,
 }
 
 /// Written by hand, so that one call drops all.
@@ -33,14 +30,12 @@ impl Drop for Kept {
         let Kept {
             alloc: _,
             events: _,
-            is_full: _,
             gives_back: _,
             left: _,
             lists: _,
             given: _,
             skipped: _,
             often: _,
-            sent: _,
         } = self;
     }
 }
@@ -53,14 +48,12 @@ impl Kept {
         Kept {
             alloc,
             events: Vec::new(alloc),
-            is_full: false,
             gives_back: 0,
             left: 0,
             lists: Vec::new(alloc),
             given: Vec::new(alloc),
             skipped: AtomicU64::new(0),
             often: AtomicU32::new(0),
-            sent: AtomicU64::new(0),
         }
     }
 
@@ -122,9 +115,6 @@ impl Gate for Kept {
     ghost was_taken = { λ g. map (λ v. map link_out_seen v.items) g.given.items };
 
     fn put(&mut self, event: Event) -> Result<(), Event> {
-        if self.is_full {
-            return Err(event);
-        }
         if self.left > 0 {
             self.left -= 1;
             return Err(event);
@@ -154,10 +144,6 @@ impl Gate for Kept {
     fn tell_skipped(&self, count: u64) {
         self.skipped.store(count, Ordering::SeqCst);
         self.often.fetch_add(1, Ordering::SeqCst);
-    }
-
-    fn tell_sent(&self, frames: &[u8]) {
-        self.sent.fetch_add(frames.len() as u64, Ordering::SeqCst);
     }
 }
 

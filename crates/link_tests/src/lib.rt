@@ -1,5 +1,5 @@
-//! Tests of the public calls of `link_io`, `gate_workers`, `gate_serving` and, over loopback, of `link_sockets`.
-//! Nothing else stands here.
+//! Tests of the public calls of `gate_workers`, `gate_serving` and, over loopback, of `link_sockets`. Nothing else
+//! stands here.
 //!
 //! Expected bytes are typed in from FIX 4.4 Volume 1, "Message Format", and SoupBinTCP 3.00, "Logical Packets".
 #![tactic(auto)]
@@ -13,16 +13,10 @@ mod lines;
 #[cfg(test)]
 mod pens;
 #[cfg(test)]
-mod readers;
-#[cfg(test)]
 mod serving;
 #[cfg(test)]
 mod sockets;
 #[cfg(test)]
 mod streams;
 #[cfg(test)]
-mod telling;
-#[cfg(test)]
 mod workers;
-#[cfg(test)]
-mod writers;

@@ -4,7 +4,7 @@ ghost use Rattle.std.specs.Prelude.{◌≡◌, ◌≤◌, []};
 
 use super::gates::Kept;
 use super::lines::{Counted, Links, Seen, Sleeping, Waiting};
-use super::streams::holds;
+use super::streams::{begins, holds};
 use gate_events::{ClientNumber, Event, LinkOut, PortNumber, Recipient};
 use gate_serving::{Line, PenWorker, Ticks, Worker, WriterEnd, serve};
 use gate_workers::Pen;
@@ -159,38 +159,48 @@ struct Waits {
     second: u32,
 }
 
-#[test]
-fn a_client_waits_for_what_another_is_told(rt: HostRuntime) -> Result<(), Fail> {
-    for (first, second) in [(1, 0), (0, 1)] {
-        let seen = Seen::new();
-        let waits = Waits {
-            first,
+/// Who waits, the bytes of the first client's link, and how many events they are with its beginning and its end.
+const WAITS: [(&str, Waits, &[u8], usize); 3] = [
+    (
+        "the first client waits for what the second is told",
+        Waits {
+            first: 1,
             is_for_itself: false,
-            second,
-        };
-        two_clients(&rt, rt.alloc(), &seen, waits, HEARTBEAT.as_slice(), 3)?;
-        look_at_flags(&rt, &seen);
-    }
-    Ok(())
-}
+            second: 0,
+        },
+        HEARTBEAT,
+        3,
+    ),
+    (
+        "the second client waits for what the first is told",
+        Waits {
+            first: 0,
+            is_for_itself: false,
+            second: 1,
+        },
+        HEARTBEAT,
+        3,
+    ),
+    (
+        "a client waits for what it is told itself",
+        Waits {
+            first: 4,
+            is_for_itself: true,
+            second: 0,
+        },
+        LOGON_AND_HEARTBEAT,
+        4,
+    ),
+];
 
 #[test]
-fn a_client_waits_for_what_it_is_told_itself(rt: HostRuntime) -> Result<(), Fail> {
-    let seen = Seen::new();
-    let waits = Waits {
-        first: 4,
-        is_for_itself: true,
-        second: 0,
-    };
-    two_clients(
-        &rt,
-        rt.alloc(),
-        &seen,
-        waits,
-        LOGON_AND_HEARTBEAT.as_slice(),
-        4,
-    )?;
-    look_at_flags(&rt, &seen);
+fn two_clients_that_wait(rt: HostRuntime) -> Result<(), Fail> {
+    for (name, waits, stream, events) in &WAITS {
+        begins(&rt, name);
+        let seen = Seen::new();
+        two_clients(&rt, rt.alloc(), &seen, *waits, stream, *events)?;
+        look_at_flags(&rt, &seen);
+    }
     Ok(())
 }
 
@@ -457,20 +467,21 @@ fn lay_close(kept: &mut Kept, link: u64, late: u32) -> Result<(), AllocError>
     Ok(kept.lists.push(ShortList::of(LinkOut::Close { link }))?)
 }
 
-#[test]
-fn a_closed_link_is_shut_down(rt: HostRuntime) -> Result<(), Fail> {
-    let seen = Seen::new();
-    serve_closed(&rt, rt.alloc(), &seen, 0, 0)?;
-    is_shut_unwritten(&rt, &seen);
-    Ok(())
-}
+/// How many heartbeats more a client is told whose link is closed, and which of its puts waits until the last of them
+/// is taken: 0 is none.
+const CLOSES: [(&str, u32, u32); 2] = [
+    ("a closed link is shut down", 0, 0),
+    ("what a link that is over is told is let go", 2, 3),
+];
 
-/// A client's link is closed, and it is told two heartbeats more. It isn't gone before the last one is taken.
 #[test]
-fn what_a_link_that_is_over_is_told_is_let_go(rt: HostRuntime) -> Result<(), Fail> {
-    let seen = Seen::new();
-    serve_closed(&rt, rt.alloc(), &seen, 2, 3)?;
-    is_shut_unwritten(&rt, &seen);
+fn a_link_that_is_closed(rt: HostRuntime) -> Result<(), Fail> {
+    for (name, late, waits_at) in CLOSES {
+        begins(&rt, name);
+        let seen = Seen::new();
+        serve_closed(&rt, rt.alloc(), &seen, late, waits_at)?;
+        is_shut_unwritten(&rt, &seen);
+    }
     Ok(())
 }
 

@@ -1,6 +1,6 @@
 //! Links over loopback.
 
-use super::streams::holds;
+use super::streams::{begins, holds};
 use link_sockets::{Acceptor, Closer, Connector, LinkFault, Opened, Opener, Prompt};
 use std::alloc::Global;
 use std::io::{Read, Write};
@@ -31,6 +31,28 @@ enum Borrower {
     Close,
     Read,
     Write,
+}
+
+const BORROWERS: [(&str, Borrower); 4] = [
+    (
+        "the last words arrive though the peer has said more",
+        Borrower::LastWords,
+    ),
+    ("a close waits no longer than the reader", Borrower::Close),
+    ("a read ends when its line does", Borrower::Read),
+    (
+        "a write waits for its peer, and a prompt one does not",
+        Borrower::Write,
+    ),
+];
+
+#[test]
+fn links_over_loopback(rt: HostRuntime) -> Result<(), Fail> {
+    for (name, borrower) in &BORROWERS {
+        begins(&rt, name);
+        lend(&rt, rt.alloc(), *borrower)?;
+    }
+    Ok(())
 }
 
 /// Accepts a link over loopback, and lends it, and its peer, to a test. An acceptor of one link has no second.
@@ -88,11 +110,6 @@ where
         }
         Borrower::Write => writes_wait(rt, &mut link.writer),
     }
-}
-
-#[test]
-fn the_last_words_arrive_though_the_peer_has_said_more(rt: HostRuntime) -> Result<(), Fail> {
-    lend(&rt, rt.alloc(), Borrower::LastWords)
 }
 
 /// The peer says ten thousand bytes, and a link that says its last words and isn't read meanwhile is closed: that takes
@@ -161,11 +178,6 @@ fn hears<R: Abort, P: Read>(rt: &R, alloc: Global, peer: &mut P) -> Result<(), F
     Ok(())
 }
 
-#[test]
-fn a_close_waits_no_longer_than_the_reader(rt: HostRuntime) -> Result<(), Fail> {
-    lend(&rt, rt.alloc(), Borrower::Close)
-}
-
 /// The peer is gone, which the reader has read: closing takes less than half a second.
 fn closes_at_once<R: Clock + Abort, A: Read, W, C: Closer>(
     rt: &R,
@@ -184,16 +196,6 @@ fn reads_nothing<R: Abort, A: Read>(rt: &R, reader: &mut A) -> Result<(), Fail> 
     let mut some = [0; 100];
     holds(rt, reader.read(&mut some)? == 0);
     Ok(())
-}
-
-#[test]
-fn a_read_ends_when_its_line_does(rt: HostRuntime) -> Result<(), Fail> {
-    lend(&rt, rt.alloc(), Borrower::Read)
-}
-
-#[test]
-fn a_write_waits_for_its_peer_and_a_prompt_one_does_not(rt: HostRuntime) -> Result<(), Fail> {
-    lend(&rt, rt.alloc(), Borrower::Write)
 }
 
 fn writes_wait<R: Clock + Abort, W: Prompt>(rt: &R, writer: &mut W) -> Result<(), Fail> {

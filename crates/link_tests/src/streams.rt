@@ -5,6 +5,11 @@ use std::alloc::Global;
 use std::io::{self, ErrorKind, Read, Write};
 use std::process::Abort;
 
+/// Tells which row of a test begins: the last one that is told is the one that failed.
+pub fn begins<R: Eprint>(rt: &R, name: &str) {
+    let _ = rt.eprintln(name);
+}
+
 /// This is so. It has the one assertion of most of these tests.
 pub fn holds<R: Abort>(rt: &R, is_so: bool) {
     assert!(rt; is_so);
@@ -30,26 +35,6 @@ impl<'a> Read for Pieces<'a> {
         places.copy_from_slice(first);
         self.rest = rest;
         Ok(count)
-    }
-}
-
-/// A reader that gives one byte for ever.
-#[derive(Drop)]
-pub struct Endless {
-    pub byte: u8,
-    pub reads: u64,
-}
-
-impl Read for Endless {
-    fn read(&mut self, buf: &mut [u8]) -> io::Result<usize> {
-        self.reads = self.reads.saturating_add(1);
-        match buf {
-            [place, ..] => {
-                *place = self.byte;
-                Ok(1)
-            }
-            [] => Ok(0),
-        }
     }
 }
 

@@ -1,11 +1,9 @@
 //! Workers of links, and the ticker.
 
-ghost use Rattle.std.specs.Prelude.{◌≤◌};
-
 use super::gates::{Kept, lay_up_to_close};
 use super::lines::Sleeping;
 use super::pens::wrote;
-use super::streams::{Pieces, Torn, holds};
+use super::streams::{Pieces, Torn, begins, holds};
 use gate_workers::{
     Pen, WriterEnd, client_reader, client_writer, port_reader, port_writer, ticker,
 };
@@ -13,7 +11,7 @@ use link_io::{ClientNumber, Event, LinkFault, PortNumber};
 use std::alloc::{AllocError, Global};
 use std::process::Abort;
 use std::sync::Wait;
-use std::sync::atomic::AtomicBool;
+use std::sync::atomic::{AtomicBool, Ordering};
 use std::test::Fail;
 use std::time;
 
@@ -59,74 +57,141 @@ fn tells<R: Abort>(rt: &R, alloc: Global, gate: &Kept, expected: &[u8]) -> Resul
     Ok(())
 }
 
-/// A reader of client 2 over this stream, read 20 bytes a read and so many times, with so many steps, through a gate
-/// that gives each event back so often, puts these events and ends so.
-fn reads_to<R: Wait + Abort + time::Clock>(
-    rt: &R,
-    alloc: Global,
-    stream: &[u8],
-    reads_left: usize,
+/// A stream of client 2, 20 bytes a read and so many reads, over which its reader makes so many steps, through a gate
+/// that gives each event back so often; the events that are put, and how the reader ends.
+struct Reading {
+    name: &'static str,
+    stream: &'static [u8],
+    reads: usize,
     steps: u64,
     often: u32,
-    events: &[u8],
+    events: &'static [u8],
     end: Result<(), LinkFault>,
-) -> Result<(), AllocError>
-    requires { 1 ≤ steps }
-{
-    let mut gate = Kept::new(alloc);
-    gate.gives_back = often;
-    gate.left = often;
-    let ended = read_into(rt, alloc, stream, reads_left, steps, &mut gate);
-    holds(rt, ended == end);
-    tells(rt, alloc, &gate, events)
 }
 
-/// Reads a stream, 20 bytes a read: how the reader ended.
-fn read_into<R: Wait + time::Clock>(
+/// What is read to its end.
+const WHOLE: Reading = Reading {
+    name: "a link is up, brings two messages, and is gone",
+    stream: TWO,
+    reads: 100,
+    steps: 1_000,
+    often: 0,
+    events: b"U2M2M2G2",
+    end: Ok(()),
+};
+
+const READINGS: [Reading; 6] = [
+    WHOLE,
+    Reading {
+        name: "each event is given back once",
+        often: 1,
+        ..WHOLE
+    },
+    Reading {
+        name: "each event is given back three times",
+        often: 3,
+        ..WHOLE
+    },
+    Reading {
+        name: "the third read fails",
+        stream: HEARTBEAT,
+        reads: 2,
+        events: b"U2M2G2",
+        end: Err(LinkFault::ReadFailed),
+        ..WHOLE
+    },
+    Reading {
+        name: "a frame is too long",
+        stream: TOO_LONG,
+        often: 2,
+        events: b"U2M2G2",
+        end: Err(LinkFault::Malformed),
+        ..WHOLE
+    },
+    Reading {
+        name: "the last step",
+        stream: HEARTBEAT,
+        steps: 2,
+        events: b"U2G2",
+        end: Err(LinkFault::StepLimit),
+        ..WHOLE
+    },
+];
+
+/// Each client's link is up, brings what it has, and is gone.
+fn read_clients<R: Wait + Abort + Eprint + time::Clock>(
     rt: &R,
     alloc: Global,
-    stream: &[u8],
-    reads_left: usize,
-    steps: u64,
-    gate: &mut Kept,
-) -> Result<(), LinkFault>
-    requires { 1 ≤ steps }
-{
-    let mut clock = Sleeping::new(rt, None);
-    let mut stream = Pieces {
-        rest: stream,
-        size: 20,
-        reads_left,
-    };
-    let client = ClientNumber::new(2);
-    client_reader(rt, alloc, client, 7, steps, &mut stream, gate, &mut clock)
-}
-
-#[test]
-fn a_link_is_up_brings_messages_and_is_gone(rt: HostRuntime) -> Result<(), Fail> {
-    for often in [0, 1, 3] {
-        reads_to(&rt, rt.alloc(), TWO, 100, 1_000, often, b"U2M2M2G2", Ok(()))?;
+) -> Result<(), AllocError> {
+    for reading in &READINGS {
+        begins(rt, reading.name);
+        let mut gate = Kept::new(alloc);
+        gate.gives_back = reading.often;
+        gate.left = reading.often;
+        let mut stream = Pieces {
+            rest: reading.stream,
+            size: 20,
+            reads_left: reading.reads,
+        };
+        let ended = read_client(rt, alloc, reading.steps, &mut stream, &mut gate);
+        holds(rt, ended == reading.end);
+        tells(rt, alloc, &gate, reading.events)?;
     }
     Ok(())
 }
 
-#[test]
-fn a_link_that_fails_is_gone_too(rt: HostRuntime) -> Result<(), Fail> {
-    let alloc = rt.alloc();
-    let failed = Err(LinkFault::ReadFailed);
-    reads_to(&rt, alloc, HEARTBEAT, 2, 1_000, 0, b"U2M2G2", failed)?;
-    let malformed = Err(LinkFault::Malformed);
-    reads_to(&rt, alloc, TOO_LONG, 100, 1_000, 2, b"U2M2G2", malformed)?;
-    let limit = Err(LinkFault::StepLimit);
-    Ok(reads_to(&rt, alloc, HEARTBEAT, 100, 2, 0, b"U2G2", limit)?)
+/// Reads a stream as client 2's link: how the reader ended.
+fn read_client<R: Wait + time::Clock>(
+    rt: &R,
+    alloc: Global,
+    steps: u64,
+    stream: &mut Pieces<'_>,
+    gate: &mut Kept,
+) -> Result<(), LinkFault> {
+    let mut clock = Sleeping::new(rt, None);
+    let client = ClientNumber::new(2);
+    client_reader(rt, alloc, client, 7, steps.max(1), stream, gate, &mut clock)
 }
 
+/// Three bytes that are no frame, a heartbeat without a header, two bytes, it again, and two bytes.
+const SKIPS: &[u8; 59] =
+    b"abc8=FIX.4.4\x019=5\x0135=0\x0110=163\x01de8=FIX.4.4\x019=5\x0135=0\x0110=163\x01fg";
+
+/// Skipped bytes are told as their count doubles, and at the end: of these bytes, so many a read, the last count is 7,
+/// and so often one is told.
+fn skip<R: Wait + Abort + Eprint + time::Clock>(rt: &R, alloc: Global) {
+    for (size, often) in [(4_096, 1), (1, 4)] {
+        begins(rt, "skipped bytes are told");
+        let mut gate = Kept::new(alloc);
+        let mut stream = Pieces {
+            rest: SKIPS,
+            size,
+            reads_left: 1_000,
+        };
+        let _ = read_client(rt, alloc, 1_000, &mut stream, &mut gate);
+        holds(rt, gate.skipped.load(Ordering::SeqCst) == 7);
+        holds(rt, gate.often.load(Ordering::SeqCst) == often);
+    }
+}
+
+/// A port's link is up, brings two packets, and is gone at an empty one.
+fn read_a_port<R: Wait + Abort + Eprint + time::Clock>(
+    rt: &R,
+    alloc: Global,
+) -> Result<(), AllocError> {
+    begins(rt, "a port's link");
+    let mut gate = Kept::new(alloc);
+    let end = read_port(rt, alloc, &mut gate);
+    holds(rt, end == Err(LinkFault::Malformed));
+    tells(rt, alloc, &gate, b"u3p3p3g3")
+}
+
+/// Links are read, to their end or to a fault.
 #[test]
-fn a_ports_link(rt: HostRuntime) -> Result<(), Fail> {
-    let mut gate = Kept::new(rt.alloc());
-    let end = read_port(&rt, rt.alloc(), &mut gate);
-    holds(&rt, end == Err(LinkFault::Malformed));
-    Ok(tells(&rt, rt.alloc(), &gate, b"u3p3p3g3")?)
+fn readers(rt: HostRuntime) -> Result<(), Fail> {
+    read_clients(&rt, rt.alloc())?;
+    skip(&rt, rt.alloc());
+    Ok(read_a_port(&rt, rt.alloc())?)
 }
 
 /// Reads two packets and an empty one as port 3's link, a byte a read: how the reader ended.
@@ -145,17 +210,20 @@ fn read_port<R: Wait + time::Clock>(
     port_reader(rt, alloc, port, 7, 100, &mut stream, gate, &mut clock)
 }
 
-#[test]
-fn a_writer_ends_at_the_close(rt: HostRuntime) -> Result<(), Fail> {
-    let alloc = rt.alloc();
+/// A writer ends at the close, and leaves what lies behind it.
+fn ends_at_the_close<R: Wait + Abort + Eprint + time::Clock>(
+    rt: &R,
+    alloc: Global,
+) -> Result<(), Fail> {
+    begins(rt, "a link is closed");
     let mut gate = Kept::new(alloc);
     lay_up_to_close(&mut gate, 1, b"ab", b"cd", 1)?;
     let pen = Pen::new(gate);
-    written_to_its_close(&rt, alloc, &pen)?;
+    written_to_its_close(rt, alloc, &pen)?;
     let Ok(gate) = pen.into_gate() else {
         return Err(Fail::new("a link is open"));
     };
-    holds(&rt, gate.lists.len() == 1);
+    holds(rt, gate.lists.len() == 1);
     Ok(())
 }
 
@@ -210,20 +278,20 @@ fn writes_until_stopped<R: Wait + Abort + time::Clock>(
     wrote(rt, written, end, bytes)
 }
 
+/// Links are written to their close, until their writers are stopped, and until a write fails.
 #[test]
-fn a_writer_that_is_stopped_writes_what_lies_there(rt: HostRuntime) -> Result<(), Fail> {
-    let stream = Torn::new(rt.alloc(), 100, 100);
-    let end = Ok(WriterEnd::Stopped);
-    writes_until_stopped(&rt, rt.alloc(), stream, end, b"ab", 3)
+fn writers(rt: HostRuntime) -> Result<(), Fail> {
+    let alloc = rt.alloc();
+    ends_at_the_close(&rt, alloc)?;
+    begins(&rt, "a writer is stopped, and writes what lies there");
+    let stream = Torn::new(alloc, 100, 100);
+    writes_until_stopped(&rt, alloc, stream, Ok(WriterEnd::Stopped), b"ab", 3)?;
+    begins(&rt, "a write fails");
+    let stream = Torn::new(alloc, 1, 1);
+    writes_until_stopped(&rt, alloc, stream, Err(LinkFault::WriteFailed), b"a", 0)
 }
 
-#[test]
-fn a_writer_that_fails(rt: HostRuntime) -> Result<(), Fail> {
-    let stream = Torn::new(rt.alloc(), 1, 1);
-    let end = Err(LinkFault::WriteFailed);
-    writes_until_stopped(&rt, rt.alloc(), stream, end, b"a", 0)
-}
-
+/// Three rounds of ticks.
 #[test]
 fn ticks_of_three_rounds(rt: HostRuntime) -> Result<(), Fail> {
     let mut gate = Kept::new(rt.alloc());

@@ -59,10 +59,14 @@ fn run_by(alloc: Global, words: &[&str]) -> Run {
     }
 }
 
+/// Each flag, and what is refused. The help goes where the outputs go, and nothing is run.
 #[test]
-fn each_flag_and_what_is_refused(rt: HostRuntime) {
+fn command_lines(rt: HostRuntime) {
     for (words, status, printed, told) in &COMMAND_LINES {
         came_to(&rt, &run_by(rt.alloc(), words), *status, printed, told);
+    }
+    for words in &HELP {
+        shows_help(&rt, &run_by(rt.alloc(), words.as_slice()));
     }
 }
 
@@ -86,20 +90,14 @@ const HELPS: [&str; 3] = [
     "Starts with no client logged on and no port logged in",
 ];
 
-/// The help goes where the outputs go, and nothing is run.
-#[test]
-fn the_help(rt: HostRuntime) {
-    for words in &HELP {
-        let run = run_by(rt.alloc(), words.as_slice());
-        assert!(rt; run.status == 0);
-        assert!(rt; run.faults.is_empty());
-        shows_help(&rt, run.output.as_slice());
-    }
-}
-
-fn shows_help(rt: &impl Abort, output: &[u8]) {
-    assert!(rt; output.starts_with(b"Runs a script of the order gateway"));
-    let help = str::from_utf8(output).unwrap_or("");
+fn shows_help(rt: &impl Abort, run: &Run) {
+    assert!(rt; run.status == 0);
+    assert!(rt; run.faults.is_empty());
+    assert!(rt;
+        run.output
+            .starts_with(b"Runs a script of the order gateway")
+    );
+    let help = str::from_utf8(run.output.as_slice()).unwrap_or("");
     for text in HELPS {
         assert!(rt; help.contains(text), "{text}");
     }

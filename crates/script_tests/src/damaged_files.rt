@@ -47,18 +47,24 @@ fn has_no_orders(alloc: Global, file: &[u8]) -> Result<bool, Fail> {
     Ok(run.status == 0 && run.output.as_slice() == b"orders 0 agree 0\n".as_slice())
 }
 
-/// Of either form.
+/// Of either form; and with each byte changed: the page's are told by its sum.
 #[test]
 fn a_file_without_orders(rt: HostRuntime) -> Result<(), Fail> {
     assert!(rt; has_no_orders(rt.alloc(), ONE_UP)?);
     assert!(rt; has_no_orders(rt.alloc(), ONE_UP_BEFORE)?);
+    for at in 0..ONE_UP.len() {
+        let mut file = *ONE_UP;
+        file[at] ^= 1;
+        assert!(rt; !has_no_orders(rt.alloc(), &file)?, "byte {at}");
+    }
     Ok(())
 }
 
 /// A file that ends before its end is of a day that goes on, wherever it is cut: behind whole pages, or in a write that
-/// was cut short, of the page or of the end. So far it has no order.
+/// was cut short, of the page or of the end. So far it has no order. One of the first form is refused.
 #[test]
 fn each_front_of_a_file(rt: HostRuntime) -> Result<(), Fail> {
+    refuses_each_front(&rt, rt.alloc())?;
     for size in 0..ONE_UP.len() {
         let torn = if size < 74 { size } else { size - 74 };
         let told = goes_on(rt.alloc(), torn)?;
@@ -81,16 +87,6 @@ fn has_no_orders_so_far(
     Ok(())
 }
 
-/// A file that is damaged is none so far either.
-#[test]
-fn a_damaged_file_so_far(rt: HostRuntime) -> Result<(), Fail> {
-    let mut damaged = *ONE_UP;
-    damaged[51] = 0x10;
-    let run = audited_so_far(rt.alloc(), &damaged)?;
-    assert_ran(&rt, &run, "", "page 0: sum\n", 2, "a damaged file");
-    Ok(())
-}
-
 /// What is told of a day that goes on, whose file ends with so many bytes of a write that was cut short.
 fn goes_on(alloc: Global, torn: usize) -> Result<String, AllocError> {
     if torn == 0 {
@@ -103,51 +99,33 @@ fn goes_on(alloc: Global, torn: usize) -> Result<String, AllocError> {
 
 /// A file of the first form has to be over, wherever it is cut: with page 0 where that isn't whole, else with page 1.
 /// Fewer than twelve bytes don't say the form.
-#[test]
-fn each_front_of_a_file_of_the_first_form(rt: HostRuntime) -> Result<(), Fail> {
+fn refuses_each_front(rt: &impl Abort, alloc: Global) -> Result<(), Fail> {
     for size in 12..ONE_UP_BEFORE.len() {
         let told = if size < 58 {
             "page 0: cut short\n"
         } else {
             "page 1: cut short\n"
         };
-        refuses(&rt, rt.alloc(), &ONE_UP_BEFORE[..size], told)?;
+        refuses(rt, alloc, &ONE_UP_BEFORE[..size], told)?;
     }
     Ok(())
 }
 
-/// A byte behind the end; a byte of the page that is another, which its sum tells; in the first form its faults.
+/// A byte behind the end; a byte of the page that is another, which its sum tells, also so far; in the first form its
+/// faults. A page that stands whole behind a damaged one is no crash's work; nor is an end.
 #[test]
 fn a_file_that_is_changed(rt: HostRuntime) -> Result<(), Fail> {
     let alloc = rt.alloc();
-    refuses_both(&rt, alloc, ONE_UP, b"\0", "page 1: head\n")?;
-    let mut file = *ONE_UP;
-    file[51] = 0x10;
-    refuses(&rt, alloc, &file, "page 0: sum\n")?;
-    let mut file = *ONE_UP_BEFORE;
-    file[35] = 0x10;
-    refuses(&rt, alloc, &file, "page 0: kind\n")
-}
-
-/// A page that stands whole behind a damaged one is no crash's work; nor is an end.
-#[test]
-fn a_page_behind_a_damaged_one(rt: HostRuntime) -> Result<(), Fail> {
-    let alloc = rt.alloc();
-    let page = &ONE_UP[..74];
-    refuses_both(&rt, alloc, page, page, "page 1: number\n")?;
     let mut damaged = *ONE_UP;
     damaged[51] = 0x10;
-    refuses_both(&rt, alloc, &damaged[..74], page, "page 0: sum\n")?;
-    refuses(&rt, alloc, &damaged, "page 0: sum\n")
-}
-
-/// Each byte of a file changed: its page's by the sum, and the end's.
-#[test]
-fn each_byte_of_a_file(rt: HostRuntime) -> Result<(), Fail> {
-    for at in 0..ONE_UP.len() {
-        let mut file = *ONE_UP;
-        file[at] ^= 1;
-        assert!(rt; !has_no_orders(rt.alloc(), &file)?, "byte {at}");
-    }
-    Ok(())
+    let mut before = *ONE_UP_BEFORE;
+    before[35] = 0x10;
+    refuses(&rt, alloc, &damaged, "page 0: sum\n")?;
+    refuses(&rt, alloc, &before, "page 0: kind\n")?;
+    let run = audited_so_far(alloc, &damaged)?;
+    assert_ran(&rt, &run, "", "page 0: sum\n", 2, "a damaged file so far");
+    let page = &ONE_UP[..74];
+    refuses_both(&rt, alloc, ONE_UP, b"\0", "page 1: head\n")?;
+    refuses_both(&rt, alloc, page, page, "page 1: number\n")?;
+    refuses_both(&rt, alloc, &damaged[..74], page, "page 0: sum\n")
 }

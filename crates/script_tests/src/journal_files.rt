@@ -3,7 +3,6 @@
 use super::running::{Run, assert_ran, audited_file, audited_so_far};
 use journal_audit::script_file;
 use std::alloc::Global;
-use std::process::Abort;
 use std::test::Fail;
 
 /// An order of 300 shares at 23.45 that is executed whole, and one of 100 at 10 that stays open.
@@ -31,52 +30,37 @@ fn filed(alloc: Global, script: &[u8]) -> Run {
     }
 }
 
-/// The day of a script is audited as the script is.
-#[test]
-fn the_day_of_a_script_is_audited(rt: HostRuntime) -> Result<(), Fail> {
-    let day = filed(rt.alloc(), SCRIPT);
-    let run = audited_file(rt.alloc(), day.output.as_slice())?;
-    assert_ran(&rt, &run, AUDIT, "", 0, "the day of a script");
-    Ok(())
-}
+/// What a file has so far of the day of the script: how many bytes of its end, which are sixteen, are cut off, and what
+/// is told then.
+const SO_FAR: [(usize, &str); 3] = [
+    (0, ""),
+    (16, "the day goes on: its file has no end\n"),
+    (
+        11,
+        "the day goes on: its file ends with 5 bytes of a write that was cut short\n",
+    ),
+];
 
-/// So far it is audited so, too: over, without its end, which are sixteen bytes, and with five of these.
+/// The day of a script is audited as the script is; so far, too. A script that stops is no day: nothing is written, and
+/// its line is told.
 #[test]
-fn the_day_of_a_script_so_far(rt: HostRuntime) -> Result<(), Fail> {
-    let day = filed(rt.alloc(), SCRIPT);
+fn days_of_scripts(rt: HostRuntime) -> Result<(), Fail> {
+    let alloc = rt.alloc();
+    let day = filed(alloc, SCRIPT);
     let file = day.output.as_slice();
-    let whole = file.len().saturating_sub(16);
-    is_audited(&rt, rt.alloc(), file, "")?;
-    let goes_on = "the day goes on: its file has no end\n";
-    is_audited(&rt, rt.alloc(), front_of(file, whole), goes_on)?;
-    let torn = "the day goes on: its file ends with 5 bytes of a write that was cut short\n";
-    is_audited(
+    assert_ran(
         &rt,
-        rt.alloc(),
-        front_of(file, whole.saturating_add(5)),
-        torn,
-    )
-}
-
-/// So many bytes of a file, or all.
-fn front_of(file: &[u8], size: usize) -> &[u8] {
-    match file.get(..size) {
-        Some(front) => front,
-        None => file,
+        &audited_file(alloc, file)?,
+        AUDIT,
+        "",
+        0,
+        "the day of a script",
+    );
+    for (cut, told) in &SO_FAR {
+        let front = front_of(file, file.len().saturating_sub(*cut));
+        assert_ran(&rt, &audited_so_far(alloc, front)?, AUDIT, told, 0, told);
     }
-}
-
-/// What a file has so far is audited as the script is, and this is told.
-fn is_audited(rt: &impl Abort, alloc: Global, file: &[u8], told: &str) -> Result<(), Fail> {
-    let run = audited_so_far(alloc, file)?;
-    assert_ran(rt, &run, AUDIT, told, 0, "the day of a script so far");
-    Ok(())
-}
-
-/// A script that stops is no day: nothing is written, and its line is told.
-#[test]
-fn a_script_that_stops_is_no_day(rt: HostRuntime) {
-    let run = filed(rt.alloc(), b"C1 tick\nC9 tick\n");
+    let run = filed(alloc, b"C1 tick\nC9 tick\n");
     assert_ran(
         &rt,
         &run,
@@ -85,4 +69,13 @@ fn a_script_that_stops_is_no_day(rt: HostRuntime) {
         2,
         "a script that stops",
     );
+    Ok(())
+}
+
+/// So many bytes of a file, or all.
+fn front_of(file: &[u8], size: usize) -> &[u8] {
+    match file.get(..size) {
+        Some(front) => front,
+        None => file,
+    }
 }

@@ -146,16 +146,6 @@ const LAST_LINES: [(&[u8], u8, &[u8]); 2] = [
     (b"C9", 2, b"line 3: not understood\n"),
 ];
 
-#[test]
-fn a_writer_that_holds_back_and_takes_one_byte(rt: HostRuntime) -> Result<(), Fail> {
-    for (last, status, told) in &LAST_LINES {
-        let mut script = Vec::from_slice(rt.alloc(), SCRIPT)?;
-        script.extend_from_slice(last)?;
-        holds_back(&rt, rt.alloc(), script.as_slice(), *status, told);
-    }
-    Ok(())
-}
-
 /// All that such a script prints is given on, though the writer holds it back.
 fn holds_back(rt: &impl Abort, alloc: Global, script: &[u8], status: u8, told: &[u8]) {
     let mut output = Holding::new(alloc);
@@ -175,23 +165,20 @@ fn long_script(alloc: Global) -> Result<Vec<u8>, AllocError> {
     Ok(script)
 }
 
+/// A writer that holds back and takes one byte a write; a reader that gives one byte a read.
 #[test]
-fn a_reader_of_one_byte_at_a_time(rt: HostRuntime) -> Result<(), Fail> {
+fn streams_of_one_byte_at_a_time(rt: HostRuntime) -> Result<(), Fail> {
+    for (last, status, told) in &LAST_LINES {
+        let mut script = Vec::from_slice(rt.alloc(), SCRIPT)?;
+        script.extend_from_slice(last)?;
+        holds_back(&rt, rt.alloc(), script.as_slice(), *status, told);
+    }
     let script = long_script(rt.alloc())?;
     let run = run_torn(rt.alloc(), script.as_slice(), false, None);
     assert!(rt; is_both(run.output.as_slice()));
     assert!(rt; run.faults.is_empty());
     assert!(rt; run.status == 0);
     Ok(())
-}
-
-#[test]
-fn a_reader_that_fails_in_mid_stream(rt: HostRuntime) {
-    for kind in [ErrorKind::Other, ErrorKind::OutOfMemory] {
-        let run = run_torn(rt.alloc(), &SCRIPT[..70], true, Some(kind));
-        assert!(rt; run.output.as_slice() == ORDER_OUTPUT);
-        has_failed(&rt, run.faults.as_slice(), run.status);
-    }
 }
 
 /// A read or a write failed, and that was told.
@@ -214,22 +201,28 @@ fn taken(rt: &impl Abort, alloc: Global, writes_left: usize, flushes: bool) -> V
     output.taken
 }
 
+/// A reader that fails in mid-stream, a writer that fails, and a fault that can't be told.
 #[test]
-fn a_writer_that_fails(rt: HostRuntime) {
+fn streams_that_fail(rt: HostRuntime) {
+    for kind in [ErrorKind::Other, ErrorKind::OutOfMemory] {
+        let run = run_torn(rt.alloc(), &SCRIPT[..70], true, Some(kind));
+        assert!(rt; run.output.as_slice() == ORDER_OUTPUT);
+        has_failed(&rt, run.faults.as_slice(), run.status);
+    }
     assert!(rt; taken(&rt, rt.alloc(), 0, true).is_empty());
     assert!(rt; taken(&rt, rt.alloc(), 1, true).as_slice() == ORDER_OUTPUT);
     assert!(rt; is_both(taken(&rt, rt.alloc(), 9, false).as_slice()));
+    assert!(rt; untold(rt.alloc()) == 2);
 }
 
-#[test]
-fn faults_that_cannot_be_told(rt: HostRuntime) {
+/// The status of a script that isn't understood, where that can't be told.
+fn untold(alloc: Global) -> u8 {
     let mut input = b"C1".as_slice();
-    let mut output = Vec::new(rt.alloc());
+    let mut output = Vec::new(alloc);
     let mut faults = Failing {
-        taken: Vec::new(rt.alloc()),
+        taken: Vec::new(alloc),
         writes_left: 0,
         flushes: true,
     };
-    let status = run_script(rt.alloc(), PLAIN, &mut input, &mut output, &mut faults);
-    assert!(rt; status == 2);
+    run_script(alloc, PLAIN, &mut input, &mut output, &mut faults)
 }

@@ -1,5 +1,0 @@
-use Rattle.desk_tests.proofs.full_rings.held_and_stepped.Given as goal
-
--- the caller picks the names of the rings
-abbrev pub ghosts-holds : goal.ghosts-holds
-ghosts-holds g a = record { inlets = a.parts.inlets; outlets = a.parts.outlets }
