@@ -225,6 +225,7 @@ fn looked<R: Clock>(rt: &R, silent: &Silent) -> Look {
 }
 
 /// That nobody who connects can be taken.
+#[derive(Drop)]
 struct NotTaken<'a> {
     error: &'a Error,
 }
