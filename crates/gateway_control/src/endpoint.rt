@@ -64,7 +64,12 @@ where
     let served = Arc::new(alloc, Served { rules, names })?;
     let mut threads = Vec::with_capacity(alloc, THREADS as usize)?;
     for _ in 0..THREADS {
-        match thread_of(rt, alloc, &listener, &served, control)? {
+        let Ok(listener) = listener.try_clone() else {
+            break;
+        };
+        let served = Arc::try_clone(&served)?;
+        let control = Arc::try_clone(control)?;
+        match thread_of(rt, alloc, listener, served, control) {
             Some(thread) => threads.push(thread)?,
             None => break,
         }
@@ -75,28 +80,23 @@ where
     Ok(Some(Endpoint { threads }))
 }
 
-/// A thread that serves connections one after the other; `None` where it can't be had.
+/// A thread that serves connections one after the other.
 fn thread_of<R>(
     rt: &R,
     alloc: Global,
-    listener: &TcpListener,
-    served: &Arc<Served>,
-    control: &Arc<DayControl>,
-) -> Result<Option<JoinHandle<()>>, AllocError>
+    listener: TcpListener,
+    served: Arc<Served>,
+    control: Arc<DayControl>,
+) -> Option<JoinHandle<()>>
 where
     R: Threads + Wait + Clock + RandomSource + Copy + Send + Drop + 'static,
 {
-    let served = Arc::try_clone(served)?;
-    let control = Arc::try_clone(control)?;
-    let Ok(listener) = listener.try_clone() else {
-        return Ok(None);
-    };
     let own = *rt;
-    let thread = thread::spawn(
+    thread::spawn(
         rt,
         move || serve_all(&own, alloc, &listener, &served, &control),
-    );
-    Ok(thread.ok())
+    )
+    .ok()
 }
 
 /// Has accepts of a listener come back after a while where no peer has come.
@@ -140,7 +140,10 @@ fn serve_one<R: Wait + Clock>(
     served: &Served,
     control: &DayControl,
 ) -> io::Result<()> {
-    let since = begun(rt, stream)?;
+    stream.set_nodelay(true)?;
+    stream.set_read_timeout(Some(look()))?;
+    stream.set_write_timeout(Some(look()))?;
+    let since = Instant::now(rt)?;
     let mut reader = Timed::new(rt, stream, since, control);
     let mut writer = Timed::new(rt, stream, since, control);
     let config = Config {
@@ -150,12 +153,4 @@ fn serve_one<R: Wait + Clock>(
     let mut connection = Connection::new(alloc, keys, config);
     let mut answers = Answers::new(rt, alloc, served, control);
     serve(&mut connection, &mut answers, &mut reader, &mut writer)
-}
-
-/// Has a connection's reads and writes come back after a while; answers the moment.
-fn begun<R: Clock>(rt: &R, stream: &TcpStream) -> io::Result<Instant> {
-    stream.set_nodelay(true)?;
-    stream.set_read_timeout(Some(look()))?;
-    stream.set_write_timeout(Some(look()))?;
-    Instant::now(rt)
 }

@@ -1,7 +1,5 @@
 //! A connection with a deadline.
 
-ghost use Rattle.std.specs.Prelude.{◌≡◌, IfSome};
-
 use crate::control::DayControl;
 use std::io;
 use std::io::{ErrorKind, Read, Write};
@@ -62,18 +60,6 @@ impl<'a, R: Clock> Timed<'a, R> {
     }
 }
 
-/// What a read or write has answered; `None` where it may be tried again.
-fn settled(answer: io::Result<usize>) -> Option<io::Result<usize>>
-    ensures { IfSome result (λ same. same ≡ answer) }
-{
-    if let Err(error) = &answer {
-        if is_passing(error) {
-            return None;
-        }
-    }
-    Some(answer)
-}
-
 /// Whether what failed may be tried again.
 fn is_passing(error: &io::Error) -> bool {
     matches!(
@@ -91,12 +77,19 @@ impl<'a, R: Clock> Read for Timed<'a, R> {
         };
         for _ in 0..u64::MAX {
             let mut stream = self.stream;
-            if let Some(answer) = settled(stream.read(buf)) {
-                self.has_read = self.has_read || answer.is_ok();
-                return answer;
+            match stream.read(buf) {
+                Ok(count) => {
+                    self.has_read = true;
+                    return Ok(count);
+                }
+                Err(error) => {
+                    if !is_passing(&error) {
+                        return Err(error);
+                    }
+                }
             }
             if self.is_late(most) {
-                break;
+                return Err(ErrorKind::TimedOut.into());
             }
         }
         Err(ErrorKind::TimedOut.into())
@@ -107,11 +100,16 @@ impl<'a, R: Clock> Write for Timed<'a, R> {
     fn write(&mut self, buf: &[u8]) -> io::Result<usize> {
         for _ in 0..u64::MAX {
             let mut stream = self.stream;
-            if let Some(answer) = settled(stream.write(buf)) {
-                return answer;
+            match stream.write(buf) {
+                Ok(count) => return Ok(count),
+                Err(error) => {
+                    if !is_passing(&error) {
+                        return Err(error);
+                    }
+                }
             }
             if self.is_late(longest_connection()) {
-                break;
+                return Err(ErrorKind::TimedOut.into());
             }
         }
         Err(ErrorKind::TimedOut.into())
