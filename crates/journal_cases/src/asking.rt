@@ -35,24 +35,32 @@ pub fn question_of(word: &str, rest: &str) -> Option<Question> {
 
 /// The source of a text.
 fn source_named(text: &str) -> Option<Source> {
-    match recipient_named(text) {
-        Some(Recipient::Client(client)) => Some(Source::Client(client)),
-        Some(Recipient::Port(port)) => Some(Source::Port(port)),
-        None if text == "clock" => Some(Source::Clock),
-        None => None,
+    if text == "clock" {
+        return Some(Source::Clock);
+    }
+    let (word, number) = numbered(text)?;
+    match word {
+        "client" => Some(Source::Client(ClientNumber::of(number)?)),
+        "port" => Some(Source::Port(PortNumber::of(number)?)),
+        _ => None,
     }
 }
 
 /// The client or the port of a text.
 fn recipient_named(text: &str) -> Option<Recipient> {
-    let (word, rest) = first_word(text);
-    let (number, _) = first_number(rest)?;
-    let number = u16::try_from(number).ok()?;
+    let (word, number) = numbered(text)?;
     match word {
         "client" => Some(Recipient::Client(ClientNumber::of(number)?)),
         "port" => Some(Recipient::Port(PortNumber::of(number)?)),
         _ => None,
     }
+}
+
+/// A word, and the number behind it.
+fn numbered(text: &str) -> Option<(&str, u16)> {
+    let (word, rest) = first_word(text);
+    let (number, _) = first_number(rest)?;
+    Some((word, u16::try_from(number).ok()?))
 }
 
 /// Prints what the history answers that pages are.
