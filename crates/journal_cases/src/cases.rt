@@ -1,8 +1,9 @@
 //! The lines of the cases, one after another.
 
+use crate::asking::{Question, answer, is_kept, question_of};
 use crate::changing::{Change, changed_all};
-use crate::reading::outcome;
-use crate::records::record_said;
+use crate::reading::{Reader, outcome};
+use crate::records::{record_said, ticks_said};
 use crate::tally::Outcome;
 use crate::words::{bytes_said, fault_named, first_number, first_word};
 use std::alloc::{AllocError, Global};
@@ -12,6 +13,7 @@ use std::io::{self, Write};
 #[derive(Drop)]
 pub struct Cases {
     name: String,
+    reader: Reader,
     pages: Vec<Vec<u8>>,
 }
 
@@ -20,6 +22,7 @@ impl Cases {
     pub fn new(alloc: Global) -> Cases {
         Cases {
             name: String::new(alloc),
+            reader: Reader::Day,
             pages: Vec::new(alloc),
         }
     }
@@ -36,6 +39,12 @@ impl Cases {
         if let Some(wanted) = wanted(word, rest) {
             return self.judge(alloc, wanted, output);
         }
+        if let Some(question) = question_of(word, rest) {
+            return self.ask(alloc, question, text, output);
+        }
+        if word == "kept" {
+            return self.compare(alloc, rest, output);
+        }
         if self.write(alloc, word, rest)? {
             return Ok(());
         }
@@ -45,16 +54,22 @@ impl Cases {
     /// Writes what a line has of a case; whether it is such a line.
     fn write(&mut self, alloc: Global, word: &str, rest: &str) -> Result<bool, AllocError> {
         match word {
-            "case" => {
-                self.name = String::from_str(alloc, rest)?;
-                self.pages = Vec::new(alloc);
-                Ok(true)
-            }
+            "case" => self.begin(alloc, Reader::Day, rest),
+            "page-case" => self.begin(alloc, Reader::Page, rest),
             "page" => self.add_page(bytes_said(alloc, rest)?),
             "bytes" => self.add(bytes_said(alloc, rest)?),
             "record" => self.add(record_said(alloc, rest)?),
+            "ticks" => self.add(ticks_said(alloc, rest)?),
             _ => Ok(false),
         }
+    }
+
+    /// Begins a case of this name.
+    fn begin(&mut self, alloc: Global, reader: Reader, name: &str) -> Result<bool, AllocError> {
+        self.name = String::from_str(alloc, name)?;
+        self.reader = reader;
+        self.pages = Vec::new(alloc);
+        Ok(true)
     }
 
     /// Adds a page that begins with these bytes; whether there are some.
@@ -87,9 +102,37 @@ impl Cases {
 
     /// Prints whether the pages come to what is wanted.
     fn judge<W: Write>(&self, alloc: Global, wanted: Outcome, output: &mut W) -> io::Result<()> {
-        let is_right = outcome(alloc, self.pages.as_slice())? == wanted;
+        let is_right = outcome(alloc, self.reader, self.pages.as_slice())? == wanted;
+        self.tell(is_right, output)
+    }
+
+    /// Prints whether the last page that the history keeps is the one that a text says, and whether the last one is of
+    /// its events and batches pushed again.
+    fn compare<W: Write>(&self, alloc: Global, text: &str, output: &mut W) -> io::Result<()> {
+        let is_right = match bytes_said(alloc, text)? {
+            Some(page) => is_kept(alloc, self.pages.as_slice(), page.as_slice())?,
+            None => false,
+        };
+        self.tell(is_right, output)
+    }
+
+    /// Prints a verdict.
+    fn tell<W: Write>(&self, is_right: bool, output: &mut W) -> io::Result<()> {
         let verdict = if is_right { "right" } else { "WRONG" };
         writeln!(output, "{}: {verdict}", self.name)
+    }
+
+    /// Prints what the history answers that the pages are.
+    fn ask<W: Write>(
+        &self,
+        alloc: Global,
+        question: Question,
+        text: &str,
+        output: &mut W,
+    ) -> io::Result<()> {
+        write!(output, "{}, {text}:", self.name)?;
+        answer(alloc, question, self.pages.as_slice(), output)?;
+        writeln!(output)
     }
 
     /// Prints what comes of all changes of a kind.
@@ -100,7 +143,7 @@ impl Cases {
         word: &str,
         output: &mut W,
     ) -> io::Result<()> {
-        let tally = changed_all(alloc, change, &mut self.pages)?;
+        let tally = changed_all(alloc, self.reader, change, &mut self.pages)?;
         write!(output, "{}, {word}: ", self.name)?;
         tally.print(output)
     }
@@ -117,10 +160,10 @@ fn change_named(word: &str) -> Option<Change> {
     }
 }
 
-/// What pages have to come to: `day`, or `refused PAGE FAULT`.
+/// What pages have to come to: `day`, `read`, or `refused PAGE FAULT`.
 fn wanted(word: &str, rest: &str) -> Option<Outcome> {
     match word {
-        "day" => Some(Outcome::History),
+        "day" | "read" => Some(Outcome::Read),
         "refused" => {
             let (page, fault) = first_number(rest)?;
             Some(Outcome::Refused(u32::try_from(page).ok()?, fault_named(fault)?))

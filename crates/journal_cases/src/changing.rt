@@ -1,6 +1,6 @@
 //! Pages that are changed in each way of a kind.
 
-use crate::reading::outcome;
+use crate::reading::{Reader, outcome};
 use crate::records::{between, front_size, places_of, split};
 use crate::tally::Tally;
 use std::alloc::{AllocError, Global};
@@ -21,16 +21,17 @@ pub enum Change {
 /// What comes of all changes of these pages.
 pub fn changed_all(
     alloc: Global,
+    reader: Reader,
     change: Change,
     pages: &mut Vec<Vec<u8>>,
 ) -> Result<Tally, AllocError> {
     let mut tally = Tally::new();
     for number in 0..pages.len() {
         match change {
-            Change::Bytes => change_bytes(alloc, pages, number, &mut tally)?,
-            Change::Fronts => cut_short(alloc, pages.as_slice(), number, &mut tally)?,
-            Change::Exchanges => exchange_all(alloc, pages.as_slice(), number, &mut tally)?,
-            Change::Cuts => cut_all(alloc, pages.as_slice(), number, &mut tally)?,
+            Change::Bytes => change_bytes(alloc, reader, pages, number, &mut tally)?,
+            Change::Fronts => cut_short(alloc, reader, pages.as_slice(), number, &mut tally)?,
+            Change::Exchanges => exchange_all(alloc, reader, pages.as_slice(), number, &mut tally)?,
+            Change::Cuts => cut_all(alloc, reader, pages.as_slice(), number, &mut tally)?,
         }
     }
     Ok(tally)
@@ -39,6 +40,7 @@ pub fn changed_all(
 /// Each byte of a page is every other value in turn.
 fn change_bytes(
     alloc: Global,
+    reader: Reader,
     pages: &mut Vec<Vec<u8>>,
     number: usize,
     tally: &mut Tally,
@@ -52,7 +54,7 @@ fn change_bytes(
         for value in 0..=255u8 {
             if value != was {
                 put_byte(pages, number, at, value);
-                tally.count(outcome(alloc, pages.as_slice())?, number);
+                tally.count(outcome(alloc, reader, pages.as_slice())?, number);
             }
         }
         put_byte(pages, number, at, was);
@@ -80,6 +82,7 @@ fn put_byte(pages: &mut Vec<Vec<u8>>, number: usize, at: usize, value: u8) {
 /// A page ends after each number of its bytes, and no page stands behind it.
 fn cut_short(
     alloc: Global,
+    reader: Reader,
     pages: &[Vec<u8>],
     number: usize,
     tally: &mut Tally,
@@ -89,7 +92,7 @@ fn cut_short(
         let mut fewer = first_pages(alloc, pages, number)?;
         let (front, _) = split(page, size);
         fewer.push(Vec::from_slice(alloc, front)?)?;
-        tally.count(outcome(alloc, fewer.as_slice())?, number);
+        tally.count(outcome(alloc, reader, fewer.as_slice())?, number);
     }
     Ok(())
 }
@@ -97,6 +100,7 @@ fn cut_short(
 /// Each record of a page is exchanged with the next one.
 fn exchange_all(
     alloc: Global,
+    reader: Reader,
     pages: &[Vec<u8>],
     number: usize,
     tally: &mut Tally,
@@ -107,7 +111,7 @@ fn exchange_all(
         if let [a, b, c] = three {
             let text = exchanged(alloc, page, [*a, *b, *c])?;
             let whole = with_parts(alloc, pages, number, vec![in alloc; text]?)?;
-            tally.count(outcome(alloc, whole.as_slice())?, number);
+            tally.count(outcome(alloc, reader, whole.as_slice())?, number);
         }
     }
     Ok(())
@@ -138,6 +142,7 @@ fn add_exchanged(
 /// A page is cut into two and into three, wherever a record ends.
 fn cut_all(
     alloc: Global,
+    reader: Reader,
     pages: &[Vec<u8>],
     number: usize,
     tally: &mut Tally,
@@ -149,7 +154,7 @@ fn cut_all(
             if a <= b && *a > front_size(page) && *b < page.len() {
                 let parts = cut_at(alloc, page, (before_a, *a), (before_b, *b))?;
                 let whole = with_parts(alloc, pages, number, parts)?;
-                tally.count(outcome(alloc, whole.as_slice())?, number);
+                tally.count(outcome(alloc, reader, whole.as_slice())?, number);
             }
         }
     }

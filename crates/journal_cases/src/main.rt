@@ -2,6 +2,7 @@
 //! that is asked for. `README.md` has the lines.
 #![tactic(auto)]
 
+mod asking;
 mod cases;
 mod changing;
 mod reading;

@@ -3,10 +3,50 @@
 use crate::records::{front_size, split};
 use crate::tally::Outcome;
 use gate_journal::{History, PageFault};
+use journal_pages::{Page, WholeWire};
 use std::alloc::{AllocError, Global};
 
+/// What pages are read as.
+#[derive(Clone, Copy)]
+pub enum Reader {
+    /// The pages of a day.
+    Day,
+    /// The first of them alone.
+    Page,
+}
+
 /// What reading pages comes to.
-pub fn outcome(alloc: Global, pages: &[Vec<u8>]) -> Result<Outcome, AllocError> {
+pub fn outcome(alloc: Global, reader: Reader, pages: &[Vec<u8>]) -> Result<Outcome, AllocError> {
+    match (reader, pages) {
+        (Reader::Page, [page, ..]) => outcome_of_page(alloc, page.as_slice()),
+        _ => outcome_of_day(alloc, pages),
+    }
+}
+
+/// What reading a text as a page comes to, and reading it as such a value: both are to refuse it, or neither.
+fn outcome_of_page(alloc: Global, text: &[u8]) -> Result<Outcome, AllocError> {
+    let is_value = Page::get(alloc, text)?.is_some();
+    match Page::read(alloc, text) {
+        Err(PageFault::NoMemory) => Err(AllocError),
+        Err(fault) if !is_value => Ok(Outcome::Refused(0, fault)),
+        Ok(page) if is_value => outcome_written(alloc, &page, text),
+        _ => Ok(Outcome::Other),
+    }
+}
+
+/// What a page comes to that was read from this text.
+fn outcome_written(alloc: Global, page: &Page, text: &[u8]) -> Result<Outcome, AllocError> {
+    let mut bytes = Vec::new(alloc);
+    page.put(&mut bytes)?;
+    if bytes.as_slice() == text {
+        Ok(Outcome::Read)
+    } else {
+        Ok(Outcome::Other)
+    }
+}
+
+/// What reading the pages of a day comes to.
+fn outcome_of_day(alloc: Global, pages: &[Vec<u8>]) -> Result<Outcome, AllocError> {
     match History::read(alloc, pages) {
         Err((_, PageFault::NoMemory)) => Err(AllocError),
         Err((page, fault)) => Ok(Outcome::Refused(page, fault)),
@@ -18,7 +58,7 @@ pub fn outcome(alloc: Global, pages: &[Vec<u8>]) -> Result<Outcome, AllocError> 
 fn outcome_of(alloc: Global, history: &History, pages: &[Vec<u8>]) -> Result<Outcome, AllocError> {
     let again = pushed_again(alloc, history)?;
     if has_records(alloc, again.pages(), pages)? {
-        Ok(Outcome::History)
+        Ok(Outcome::Read)
     } else {
         Ok(Outcome::Other)
     }

@@ -59,6 +59,42 @@ fn record_of(alloc: Global, head: Head, payload: &[u8]) -> Result<Vec<u8>, Alloc
     Ok(bytes)
 }
 
+/// The records of so many ticks of client 1, one each millisecond from 0 on, each with an empty batch. `None` where the
+/// text is no number.
+pub fn ticks_said(alloc: Global, text: &str) -> Result<Option<Vec<u8>>, AllocError> {
+    match first_number(text) {
+        Some((count, _)) => Ok(Some(ticks(alloc, count)?)),
+        None => Ok(None),
+    }
+}
+
+/// The records of so many ticks.
+fn ticks(alloc: Global, count: u64) -> Result<Vec<u8>, AllocError> {
+    let mut bytes = Vec::new(alloc);
+    for at in 0..count {
+        add_tick(alloc, &mut bytes, at)?;
+    }
+    Ok(bytes)
+}
+
+/// Adds the records of a tick at a moment.
+fn add_tick(alloc: Global, bytes: &mut Vec<u8>, at: u64) -> Result<(), AllocError> {
+    let tick = Head {
+        kind: 7,
+        source: 1,
+        link: 0,
+        at,
+    };
+    let end = Head {
+        kind: 15,
+        source: 0,
+        link: 0,
+        at,
+    };
+    bytes.extend_from_slice(record_of(alloc, tick, b"")?.as_slice())?;
+    bytes.extend_from_slice(record_of(alloc, end, b"")?.as_slice())
+}
+
 /// Where the records of a page begin, and where the last one ends.
 pub fn places_of(alloc: Global, page: &[u8]) -> Result<Vec<usize>, AllocError> {
     let mut places = Vec::new(alloc);

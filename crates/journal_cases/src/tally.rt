@@ -8,13 +8,14 @@ use std::io::{self, Write};
 pub enum Outcome {
     /// They are refused: the number of the page, and why.
     Refused(u32, PageFault),
-    /// They are a history, and its events and batches, pushed again, are the same records.
-    History,
-    /// They are a history whose events and batches are other records.
+    /// They are a history, and its events and batches, pushed again, are the same records; or a page that is written as
+    /// it was read.
+    Read,
+    /// They are a history whose events and batches are other records, or a page that is written otherwise.
     Other,
 }
 
-/// How many pages were refused, by why, how many were read as a history, and how many otherwise than they are to be.
+/// How many pages were refused, by why, how many were read, and how many otherwise than they are to be.
 #[derive(Clone, Copy)]
 pub struct Tally {
     head: u64,
@@ -23,7 +24,7 @@ pub struct Tally {
     payload: u64,
     order: u64,
     number: u64,
-    histories: u64,
+    read: u64,
     wrong: u64,
 }
 
@@ -37,7 +38,7 @@ impl Tally {
             payload: 0,
             order: 0,
             number: 0,
-            histories: 0,
+            read: 0,
             wrong: 0,
         }
     }
@@ -46,7 +47,7 @@ impl Tally {
     pub fn count(&mut self, outcome: Outcome, from: usize) {
         match outcome {
             Outcome::Refused(page, fault) if page as usize >= from => self.refuse(fault),
-            Outcome::History => self.histories = self.histories.saturating_add(1),
+            Outcome::Read => self.read = self.read.saturating_add(1),
             _ => self.wrong = self.wrong.saturating_add(1),
         }
     }
@@ -71,6 +72,6 @@ impl Tally {
             "refused: head {}, kind {}, cut short {}, payload {}, order {}, number {}",
             self.head, self.kind, self.cut_short, self.payload, self.order, self.number
         )?;
-        writeln!(output, "; read: {}; wrong: {}", self.histories, self.wrong)
+        writeln!(output, "; read: {}; wrong: {}", self.read, self.wrong)
     }
 }

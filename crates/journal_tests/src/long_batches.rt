@@ -1,6 +1,5 @@
 //! A batch that is longer than a page.
 
-use crate::records::first_page;
 use gate_journal::{Batch, ClientNumber, Event, History, LinkOut, PortNumber, ShortList};
 use std::alloc::Global;
 use std::process::Abort;
@@ -56,4 +55,10 @@ fn a_resend_is_kept_whole_or_not_at_all(rt: HostRuntime) -> Result<(), Fail> {
 fn is_kept(alloc: Global, history: &mut History) -> Result<bool, Fail> {
     let batch = resend(alloc)?;
     Ok(history.push(&tick_at(7), &batch).is_ok())
+}
+
+/// The first page of a history; where there is none the test fails.
+fn first_page<'a>(history: &'a History) -> Result<&'a [u8], Fail> {
+    let page = history.pages().first().ok_or("a page")?;
+    Ok(page.as_slice())
 }
