@@ -56,10 +56,14 @@ fn same(rt: &impl Abort, account: Account, expected: Account) {
     assert_eq!(rt; account, expected);
 }
 
+/// What the market says of an order that is traded, broken and cancelled; its client's reports of one that is traded,
+/// busted and cancelled; and a number that no integer holds.
 #[test]
-fn an_order_that_is_traded_broken_and_cancelled(rt: HostRuntime) -> Result<(), Fail> {
-    let mut messages = Vec::new(rt.alloc());
-    is_traded_and_cancelled(&rt, rt.alloc(), &mut messages)
+fn accounts_of_an_order(rt: HostRuntime) -> Result<(), Fail> {
+    let alloc = rt.alloc();
+    is_traded_and_cancelled(&rt, alloc, &mut Vec::new(alloc))?;
+    is_traded_and_busted(&rt, alloc, &mut Vec::new(alloc))?;
+    is_too_large(&rt, alloc, &mut Vec::new(alloc))
 }
 
 fn is_traded_and_cancelled(
@@ -129,12 +133,6 @@ fn account_read(alloc: Global, reports: &[Fields]) -> Result<Account, Fail> {
     Ok(reading_of(alloc, b"1", reports)?.account())
 }
 
-#[test]
-fn reports_of_an_order_that_is_traded_busted_and_cancelled(rt: HostRuntime) -> Result<(), Fail> {
-    let mut reports = Vec::new(rt.alloc());
-    is_traded_and_busted(&rt, rt.alloc(), &mut reports)
-}
-
 fn is_traded_and_busted(
     rt: &impl Abort,
     alloc: Global,
@@ -163,10 +161,8 @@ fn is_traded_and_busted(
     Ok(())
 }
 
-#[test]
-fn a_number_that_no_integer_holds(rt: HostRuntime) -> Result<(), Fail> {
-    let alloc = rt.alloc();
-    let mut reports = Vec::new(alloc);
+/// A report of client 1 with 2^32 shares open: none of its accounts is read, and of another client's an empty one.
+fn is_too_large(rt: &impl Abort, alloc: Global, reports: &mut Vec<Fields>) -> Result<(), Fail> {
     reports.push(fields(alloc, b"35=8|37=1|54=1|38=300|150=0|151=4294967296|")?)?;
     let refused = reading_of(alloc, b"1", reports.as_slice()).map(|reading| reading.account());
     assert!(rt; matches!(refused, Err(ReadingFault::TooLarge)));

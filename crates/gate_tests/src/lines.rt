@@ -28,39 +28,36 @@ fn two_pairs(alloc: Global) -> Result<Vec<OrderPair>, AllocError> {
     Ok(vec![in alloc; first, second]?)
 }
 
+/// A line for each of these orders, and the count last.
+const TWO_LINES: &[u8] = b"C1 A1 side 5 executed 300 open 150 cancelled 50 value 70350000 agree\n\
+    C12 B-2 side 5 executed 300 open 150 cancelled 50 value 70350000 differ\n\
+    orders 2 agree 1\n";
+
+/// Two orders, none, and a write or a flush that fails.
 #[test]
-fn a_line_for_each_order_and_the_count_last(rt: HostRuntime) -> Result<(), Fail> {
+fn lines_of_audits(rt: HostRuntime) -> Result<(), Fail> {
     let alloc = rt.alloc();
     let pairs = two_pairs(alloc)?;
-    let (mut output, mut faults) = (Vec::new(alloc), Vec::new(alloc));
-    let status = write_audit(alloc, pairs.as_slice(), &mut output, &mut faults);
-    let expected = b"C1 A1 side 5 executed 300 open 150 cancelled 50 value 70350000 agree\n\
-        C12 B-2 side 5 executed 300 open 150 cancelled 50 value 70350000 differ\n\
-        orders 2 agree 1\n";
-    assert!(rt; output.as_slice() == expected.as_slice());
-    assert!(rt; faults.is_empty());
-    assert!(rt; status == 1);
-    Ok(())
+    is_written(&rt, alloc, pairs.as_slice(), TWO_LINES, 1);
+    is_written(&rt, alloc, &[], b"orders 0 agree 0\n", 0);
+    failures_are_told(&rt, alloc)
 }
 
-#[test]
-fn no_orders(rt: HostRuntime) -> Result<(), Fail> {
-    let alloc = rt.alloc();
-    let (mut output, mut faults) = (Vec::new(alloc), Vec::new(alloc));
-    let status = write_audit(alloc, &[], &mut output, &mut faults);
-    assert!(rt; output.as_slice() == b"orders 0 agree 0\n".as_slice());
-    assert!(rt; faults.is_empty());
-    assert!(rt; status == 0);
-    Ok(())
-}
-
-#[test]
-fn a_write_or_a_flush_that_fails_is_told(rt: HostRuntime) -> Result<(), Fail> {
-    let alloc = rt.alloc();
+/// A write that fails and a flush that does are told, though all orders agree.
+fn failures_are_told(rt: &impl Abort, alloc: Global) -> Result<(), Fail> {
     let pairs = vec![in alloc; pair(alloc, 1, b"A1", READ)?]?;
-    is_told(&rt, alloc, pairs.as_slice(), false);
-    is_told(&rt, alloc, pairs.as_slice(), true);
+    is_told(rt, alloc, pairs.as_slice(), false);
+    is_told(rt, alloc, pairs.as_slice(), true);
     Ok(())
+}
+
+/// The audit of these pairs is written so, and nothing is told, with this status.
+fn is_written(rt: &impl Abort, alloc: Global, pairs: &[OrderPair], lines: &[u8], status: u8) {
+    let (mut output, mut faults) = (Vec::new(alloc), Vec::new(alloc));
+    let given = write_audit(alloc, pairs, &mut output, &mut faults);
+    assert!(rt; output.as_slice() == lines, "with status {status}");
+    assert!(rt; faults.is_empty());
+    assert!(rt; given == status);
 }
 
 /// Written to a writer that fails when it is flushed, and before that, unless it takes writes.
