@@ -1,5 +1,5 @@
-//! Tests of whole runs of `gate_core`, of their audits by `gate_audit` and `audit_lines`, of the two readings of
-//! `order_accounts` that an audit compares, and of `settings_file`. Nothing else stands here.
+//! Tests of whole runs of `gate_core`, of their audits by `gate_audit` and `audit_lines`, and of the two readings of
+//! `order_accounts` that an audit compares. Nothing else stands here.
 //!
 //! What is expected is typed in from the standards' layouts and the rules, never taken from a run.
 #![tactic(auto)]
@@ -16,5 +16,3 @@ mod lines;
 mod runs;
 #[cfg(test)]
 mod served;
-#[cfg(test)]
-mod settings;
