@@ -119,6 +119,31 @@ class Market:
             self.said.append(ouch.executed(it.token, it.shares, it.price, self.reference))
 
 
+class Unwilling(Market):
+    """Answers each login with these packets, and says nothing more. When it was asked it keeps."""
+
+    def __init__(self, address, answer):
+        super().__init__(address)
+        self.asked, self.answered = [], answer
+
+    def serve_link(self, stream):
+        stream.settimeout(0.05)
+        packets = ouch.Packets()
+        while self.is_there:
+            try:
+                data = stream.recv(65536)
+                if not data:
+                    return
+            except TimeoutError:
+                data = b""
+            except OSError:
+                return
+            for kind, _ in packets.feed(data):
+                if kind == b"L":
+                    self.asked.append(time.monotonic())
+                    stream.sendall(self.answered)
+
+
 class Client:
     """A FIX client by hand."""
 
@@ -537,6 +562,29 @@ class Day:
         self.is_so("and at the end that it wasn't answered", (ran.returncode, status) == (0, 0)
                    and self.says("W1 of BANK: asked, not answered\n"))
 
+    def unwilling_markets(self):
+        """Markets that reject each login, or end the session at once."""
+        ended = ouch.login_accepted(b"DAY", 1) + ouch.packet(b"Z")
+        for what, answer, seconds, logins, line in (
+                ("a login rejected by A isn't tried again for a minute", ouch.packet(b"J", b"A"), 20, 1,
+                 " P1 login rejected: A, user or password\n"),
+                ("a login rejected by S is tried again after ten seconds", ouch.packet(b"J", b"S"), 20, 2,
+                 " P1 next login in 10 s\n"),
+                ("a port whose session is ended is left alone", ended, 8, 1, " P1 session ended by the market\n")):
+            market = Unwilling(self.at["market"], answer)
+            market.begin()
+            self.running = self.start()
+            self.is_so(what + ": the reason is told", self.says(line))
+            time.sleep(seconds)
+            gaps = [round(later - earlier, 1) for earlier, later in zip(market.asked, market.asked[1:])]
+            self.is_so(f"{what} ({len(market.asked)} logins in {seconds} s, between them {gaps} s)",
+                       len(market.asked) == logins and all(gap > 10 for gap in gaps))
+            begin = time.monotonic()
+            ran, status = self.end("--now"), self.running.wait(20)
+            spent = time.monotonic() - begin
+            self.is_so(f"the day ends meanwhile ({spent:.1f} s)", (ran.returncode, status) == (0, 0) and spent < 3)
+            market.end()
+
     def a_pipe_that_nobody_reads(self):
         words = [self.gateway, "serve", "--settings", str(self.settings)]
         self.market = Market(self.at["market"])
@@ -574,7 +622,7 @@ class Day:
         for step in (self.an_address_in_use, self.nobody_to_end, self.before_the_market, self.bare_connects,
                      self.refused_logons, self.foreign_addresses, self.market_restarts, self.what_is_shown,
                      self.a_disconnect, self.many_readers, self.headers, self.the_end, self.an_export,
-                     self.orders_that_wait, self.a_pipe_that_nobody_reads):
+                     self.orders_that_wait, self.unwilling_markets, self.a_pipe_that_nobody_reads):
             step()
         print("all is right" if self.wrong == 0 else f"{self.wrong} wrong")
         return 1 if self.wrong else 0

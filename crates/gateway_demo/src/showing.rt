@@ -191,7 +191,7 @@ fn plan_of<'a, R>(
         ports: vec![in alloc; Connector::new(rt, market, 1, is_over)]?,
         rules: LinkRules {
             tells_frames: false,
-            leaves_faulted: false,
+            leaves_alone: false,
         },
     })
 }

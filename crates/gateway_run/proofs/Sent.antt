@@ -70,7 +70,22 @@ module _ (a : NamedLft) (K R : RattleType) (k : DeskName.Ghosts K.Denot) (r : Is
       search (shared_sync, sendable) depth 40,
       (
         search sendable depth 40,
-        (search (c, sendable), (search sendable, (search sendable, tt))),
+        (
+          search (c, sendable),
+          (
+            search sendable,
+            (
+              search sendable,
+              (
+                search (sendable, crosses) depth 40,
+                (
+                  search (sendable, crosses) depth 40,
+                  (search sendable, (search (sendable, crosses) depth 40, tt)),
+                ),
+              ),
+            ),
+          ),
+        ),
       ),
     ),
   )
@@ -114,7 +129,10 @@ module _ (a : NamedLft) (K R : RattleType) (k : DeskName.Ghosts K.Denot) (r : Is
         search (sendable, crosses) depth 40,
         (
           search (shared_sync, sendable) depth 40,
-          (search (teller_send, r, sendable) depth 40, (search sendable, tt)),
+          (
+            search (teller_send, r, sendable) depth 40,
+            (search sendable, (search (sendable, crosses) depth 40, tt)),
+          ),
         ),
       ),
     ),

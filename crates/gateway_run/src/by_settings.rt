@@ -109,7 +109,7 @@ fn plan_of<'a, R: Clock + Eprint>(
         ports,
         rules: LinkRules {
             tells_frames: true,
-            leaves_faulted: false,
+            leaves_alone: false,
         },
     })
 }

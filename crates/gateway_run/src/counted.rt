@@ -1,7 +1,30 @@
 //! The links of clients, counted: who has to end with them knows when they are over.
 
 use gate_serving::{LinkEnd, LinkFault, Opened, Opener};
-use std::sync::atomic::{AtomicBool, AtomicU32, Ordering};
+use std::alloc::{AllocError, Global};
+use std::sync::atomic::{AtomicBool, AtomicU8, AtomicU32, Ordering};
+
+/// What the lines of a gateway share of their links.
+#[derive(Drop)]
+pub(crate) struct LinkStates {
+    pub(crate) clients: ClientCounts,
+    /// For each port the letter with which its last login was rejected; 0 where it wasn't.
+    pub(crate) letters: Vec<AtomicU8>,
+}
+
+impl LinkStates {
+    /// Of so many clients and ports, none of which has had a link.
+    pub(crate) fn of(alloc: Global, clients: u32, ports: usize) -> Result<LinkStates, AllocError> {
+        let mut letters = Vec::with_capacity(alloc, ports)?;
+        for _ in 0..ports {
+            letters.push(AtomicU8::new(0))?;
+        }
+        Ok(LinkStates {
+            clients: ClientCounts::of(clients),
+            letters,
+        })
+    }
+}
 
 /// How a gateway's clients stand.
 #[derive(Drop)]

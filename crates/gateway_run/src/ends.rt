@@ -14,6 +14,7 @@ use gate_events::{Recipient, Source};
 use std::alloc::{AllocError, Global};
 use std::hash::RandomState;
 use std::sync::Wait;
+use std::sync::atomic::AtomicU8;
 use std::time::Clock;
 
 /// Where the links of a gateway come from: an opener for each client and for each port, in the order of the settings.
@@ -31,8 +32,9 @@ pub struct LinkRules {
     /// Whether standard error has how many bytes of a client's link were part of no frame, and each Reject,
     /// ResendRequest and Logout that a client is sent.
     pub tells_frames: bool,
-    /// Whether a port that is faulted isn't connected again.
-    pub leaves_faulted: bool,
+    /// Whether a port that is faulted, or whose session the market has ended, isn't connected again, and one whose
+    /// login was rejected only after a pause.
+    pub leaves_alone: bool,
 }
 
 /// The lines of a desk's clients and of its ports, in this order. Its type keeps that each puts the events of its own
@@ -81,7 +83,7 @@ impl<
             let teller = teller_of(rt, self.rules.tells_frames, &peer);
             let own = InletGate::new(shared, pens, inlet);
             let who = login_teller_of(rt, self.rules.tells_frames, &peer);
-            let own = RunGate::new(rt, self.alloc, shared, own, who);
+            let own = RunGate::new(rt, self.alloc, shared, own, who, letter_of(&opener));
             let gate = TellingGate::new(self.alloc, own, teller);
             let line = line_of(rt, shared, peer, opener, gate, at, pen);
             return self.keep(line);
@@ -96,6 +98,16 @@ impl<
     {
         self.lines.push(line)?;
         Ok(())
+    }
+}
+
+/// Where the letter of a login that a port's market rejects is kept; of a client nowhere.
+fn letter_of<'a, A, C, K: DeskName, R: Wait + Clock + Eprint>(
+    opener: &RunOpener<A, PortLinks<'a, C, K, R>>,
+) -> Option<&'a AtomicU8> {
+    match opener {
+        RunOpener::Client(_) => None,
+        RunOpener::Port(links) => links.letter(),
     }
 }
 
@@ -143,7 +155,7 @@ pub(crate) fn ends_of<
     inlets: Vec<Inlet<K>>,
     pens: &'p [OutletPen<W, G>],
     clients: Vec<CountedLinks<'a, A>>,
-    ports: Vec<C>,
+    ports: Vec<PortLinks<'a, C, K, R>>,
     rules: LinkRules,
 ) -> Result<Ends<'p, 'a, W, G, A, C, K, R>, AllocError> {
     let mut accepting = clients.into_iter();
@@ -160,13 +172,7 @@ pub(crate) fn ends_of<
             }
             Source::Port(port) => {
                 if let Some(links) = connecting.next() {
-                    let opener = RunOpener::Port(PortLinks::new(
-                        rt,
-                        shared,
-                        port,
-                        links,
-                        rules.leaves_faulted,
-                    ));
+                    let opener = RunOpener::Port(links);
                     let peer = Recipient::Port(port);
                     ends.add(rt, shared, peer, opener, inlet, pens, pen)?;
                 }

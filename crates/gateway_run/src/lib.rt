@@ -10,6 +10,7 @@ mod day_journal;
 mod ends;
 mod fault;
 mod lines;
+mod login_pause;
 mod memory_watch;
 mod order_watch;
 mod port_faults;

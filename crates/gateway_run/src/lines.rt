@@ -118,7 +118,7 @@ where
     if inlet.source() == Source::Clock {
         let Count { clients, ports } = count;
         let own = InletGate::new(shared, pens, inlet);
-        let own = RunGate::new(rt, alloc, shared, own, None);
+        let own = RunGate::new(rt, alloc, shared, own, None, None);
         let gate = TellingGate::new(alloc, own, None);
         return Some(Ticks {
             clients,

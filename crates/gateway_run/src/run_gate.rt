@@ -13,6 +13,7 @@ use std::fmt;
 use std::fmt::{Display, Formatter};
 use std::hash::RandomState;
 use std::sync::Wait;
+use std::sync::atomic::{AtomicU8, Ordering};
 use std::time::Clock;
 
 /// A gate through which a tick goes only where a session's table has a row for it just now (`Core::is_due`). Any other
@@ -29,18 +30,22 @@ pub(crate) struct RunGate<'a, G, K: DeskName, R> {
     teller: Option<Teller<'a, R>>,
     /// No frame of the link came yet.
     is_first: bool,
+    /// Where the letter of a login that a market rejects is kept.
+    letter: Option<&'a AtomicU8>,
 }
 
 impl<'a, G, K: DeskName, R> RunGate<'a, G, K, R> {
     ghost use Rattle.std.specs.Prelude.{◌≡◌};
 
-    /// This gate to the desk, with who tells, where somebody does. Takes no memory.
+    /// This gate to the desk, with who tells, where somebody does, and where the letter of a login that a market
+    /// rejects is kept. Takes no memory.
     pub(crate) fn new(
         rt: &'a R,
         alloc: Global,
         shared: &'a Shared<K, RandomState>,
         gate: G,
         teller: Option<Teller<'a, R>>,
+        letter: Option<&'a AtomicU8>,
     ) -> RunGate<'a, G, K, R>
         ensures { result.gate ≡ gate }
     {
@@ -51,6 +56,7 @@ impl<'a, G, K: DeskName, R> RunGate<'a, G, K, R> {
             shared,
             teller,
             is_first: true,
+            letter,
         }
     }
 
@@ -104,9 +110,15 @@ impl<'a, G, K: DeskName, R: Wait + Clock + Eprint> RunGate<'a, G, K, R> {
         }
     }
 
-    /// Tells of a Login Rejected.
+    /// Keeps the letter of a Login Rejected, and tells of it.
     fn look_at_packet(&self, packet: &Packet) {
-        if let (Some(teller), b'J') = (&self.teller, packet.kind) {
+        if packet.kind != b'J' {
+            return;
+        }
+        if let (Some(kept), [letter, ..]) = (self.letter, packet.payload.as_slice()) {
+            kept.store(*letter, Ordering::SeqCst);
+        }
+        if let Some(teller) = &self.teller {
             teller.tell_of(&RejectedLogin(packet));
         }
     }

@@ -5,13 +5,14 @@ ghost use Rattle.gate_law.specs.Holds.{Holds};
 ghost use Rattle.audit_lines.specs.gate_audit.gate_journal.Kept.{turns};
 ghost use Rattle.desk_gates.specs.desk.Settling.{AreSettled};
 
-use crate::counted::{ClientCounts, CountedLinks};
+use crate::counted::{ClientCounts, CountedLinks, LinkStates};
 use crate::day::Day;
 use crate::day_journal::DayJournal;
-use crate::ends::{Ends, RunPlan, ends_of};
+use crate::ends::{Ends, LinkRules, RunPlan, ends_of};
 use crate::fault::RunFault;
 use crate::lines::{Count, Left, pens_of, ticks_of};
 use crate::order_watch::ports_of_clients;
+use crate::port_faults::PortLinks;
 use crate::resuming::{go_on, take_syncs};
 use crate::sync_timer::SyncTimer;
 use audit_lines::Settings;
@@ -124,7 +125,8 @@ where
     let mut journal = journal;
     let syncs = take_syncs(&mut journal);
     go_on(rt, alloc, &shared, &mut inlets, &mut outlets, journal)?;
-    let counts = ClientCounts::of(plan.clients.len().min(usize::from(count.clients)) as u32);
+    let clients = plan.clients.len().min(usize::from(count.clients)) as u32;
+    let states = LinkStates::of(alloc, clients, plan.ports.len())?;
     let pens = pens_of::<A::Writer, K, R>(rt, alloc, &shared, outlets, plan.rules.tells_frames)?;
     let mut left = serve_desk(
         rt,
@@ -132,7 +134,7 @@ where
         count,
         ports_of,
         &shared,
-        &counts,
+        &states,
         inlets,
         pens.as_slice(),
         plan,
@@ -184,7 +186,7 @@ fn serve_desk<'p, 'a, K, R, A, C, G>(
     count: Count,
     ports_of: &'a [u16],
     shared: &'a Shared<K, RandomState>,
-    counts: &'a ClientCounts,
+    states: &'a LinkStates,
     inlets: Vec<Inlet<K>>,
     pens: &'p [OutletPen<A::Writer, G>],
     plan: RunPlan<A, C>,
@@ -213,7 +215,9 @@ where
         ports,
         rules,
     } = plan;
+    let counts = &states.clients;
     let clients = counted(alloc, clients, counts, is_over)?;
+    let ports = left_alone(rt, alloc, shared, ports, states, rules, is_over)?;
     let ends = ends_of(rt, alloc, shared, inlets, pens, clients, ports, rules)?;
     let Ends { lines, .. } = ends;
     let ticks = ticks_of(
@@ -239,6 +243,35 @@ fn counted<'a, A: Drop>(
     let mut links = Vec::with_capacity(alloc, openers.len())?;
     for opener in openers {
         links.push(CountedLinks::new(opener, counts, is_over))?;
+    }
+    Ok(links)
+}
+
+/// The links of ports, which are left alone where these rules say so.
+fn left_alone<'a, C: Drop, K: DeskName, R: Wait + Clock + Eprint>(
+    rt: &'a R,
+    alloc: Global,
+    shared: &'a Shared<K, RandomState>,
+    openers: Vec<C>,
+    states: &'a LinkStates,
+    rules: LinkRules,
+    is_over: &'a AtomicBool,
+) -> Result<Vec<PortLinks<'a, C, K, R>>, AllocError> {
+    let mut links = Vec::with_capacity(alloc, openers.len())?;
+    for opener in openers {
+        let letter = states.letters.get(links.len());
+        let number = u16::try_from(links.len().saturating_add(1)).unwrap_or(u16::MAX);
+        let leaves_alone = rules.leaves_alone;
+        links.push(PortLinks::new(
+            rt,
+            alloc,
+            shared,
+            number,
+            opener,
+            leaves_alone,
+            letter,
+            is_over,
+        ))?;
     }
     Ok(links)
 }

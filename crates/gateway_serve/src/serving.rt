@@ -123,7 +123,7 @@ fn plan_of<'a, R: Clock + Eprint>(
         ports,
         rules: LinkRules {
             tells_frames: true,
-            leaves_faulted: true,
+            leaves_alone: true,
         },
     })
 }

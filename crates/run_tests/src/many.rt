@@ -156,7 +156,7 @@ fn plan_of<'a, R>(
         ports,
         rules: LinkRules {
             tells_frames: false,
-            leaves_faulted: false,
+            leaves_alone: false,
         },
     })
 }
