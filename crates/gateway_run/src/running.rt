@@ -121,12 +121,12 @@ where
     requires named { (parts.inlets ≡ K.inlets) × (parts.outlets ≡ K.outlets) }
     requires clock { 0 < length parts.inlets }
 {
+    let clients = plan.clients.len().min(usize::from(count.clients)) as u32;
+    let states = LinkStates::of(alloc, clients, plan.ports.len())?;
     let (shared, mut inlets, mut outlets) = open_desk::<K, RandomState>(alloc, parts)?;
     let mut journal = journal;
     let syncs = take_syncs(&mut journal);
     go_on(rt, alloc, &shared, &mut inlets, &mut outlets, journal)?;
-    let clients = plan.clients.len().min(usize::from(count.clients)) as u32;
-    let states = LinkStates::of(alloc, clients, plan.ports.len())?;
     let pens = pens_of::<A::Writer, K, R>(rt, alloc, &shared, outlets, plan.rules.tells_frames)?;
     let mut left = serve_desk(
         rt,
