@@ -1,11 +1,19 @@
 //! Prices, quantities, worths and averages.
 
-use crate::words::{first_word, number};
+use case_lines::first_word;
 use fixed_point::{
     DecimalRefusal, Price4, Shares, average, parse_price, parse_qty, parse_worth, print_price,
 };
 use std::alloc::{AllocError, Global};
-use std::str;
+use std::str::{self, FromStr};
+
+/// The number that a word says, where it is one of this type.
+pub fn number<T: FromStr>(word: &str) -> Option<T>
+where
+    T::Err: Drop,
+{
+    word.parse::<T>().ok()
+}
 
 /// The number of a refusal, and what it prints.
 fn refused(alloc: Global, refusal: DecimalRefusal) -> Result<String, AllocError> {

@@ -1,30 +1,16 @@
 //! Messages as fields, in texts in which `|` stands for SOH.
 
-use crate::words::{first_word, number};
-use fix_types::{Fields, SOH, split};
+use crate::decimals::number;
+use case_lines::{bytes_of, first_word, shown};
+use fix_types::{Fields, split};
 use std::alloc::{AllocError, Global};
-use std::str;
 
 /// The fields of a text, none where it is no fields.
 pub fn fields_of(alloc: Global, text: &str) -> Result<Option<Fields>, AllocError> {
-    let mut bytes = Vec::from_slice(alloc, text.as_bytes())?;
-    for byte in bytes.iter_mut() {
-        if *byte == b'|' {
-            *byte = SOH;
-        }
+    match bytes_of(alloc, text)? {
+        Some(bytes) => split(alloc, bytes.as_slice()),
+        None => Ok(None),
     }
-    split(alloc, bytes.as_slice())
-}
-
-/// Bytes as a text, with a bar for each SOH.
-pub fn shown(alloc: Global, bytes: &[u8]) -> Result<String, AllocError> {
-    let mut text = Vec::from_slice(alloc, bytes)?;
-    for byte in text.iter_mut() {
-        if *byte == SOH {
-            *byte = b'|';
-        }
-    }
-    String::from_str(alloc, str::from_utf8(text.as_slice()).unwrap_or("no text"))
 }
 
 /// How many fields a text has, and they behind no others.

@@ -6,28 +6,24 @@ mod decimals;
 mod fields;
 mod messages;
 mod order_tokens;
-mod words;
 
+use case_lines::{Answers, answer_lines, first_word};
+use messages::Part;
 use std::alloc::{AllocError, Global};
-use std::io::{self, BufRead, BufReader, Write};
-use words::first_word;
+use std::io;
 
 fn main(rt: HostRuntime) -> io::Result<()> {
-    let alloc = rt.alloc();
-    for line in BufReader::new(alloc, rt.reader())?.lines(alloc) {
-        let line = line?;
-        answer_line(alloc, line.as_str(), &mut io::writer(&rt))?;
-    }
-    Ok(())
+    answer_lines(rt.alloc(), &mut Values, rt.reader(), &mut io::writer(&rt))
 }
 
-/// Writes a line with its answer; nothing of a remark and of an empty line.
-fn answer_line<W: Write>(alloc: Global, line: &str, output: &mut W) -> io::Result<()> {
-    if line.is_empty() || line.starts_with('#') {
-        return Ok(());
+/// The calls on values.
+#[derive(Clone, Copy)]
+struct Values;
+
+impl Answers for Values {
+    fn answer(&mut self, alloc: Global, call: &str) -> Result<String, AllocError> {
+        answer_to(alloc, call)
     }
-    let answer = answer_to(alloc, line)?;
-    writeln!(output, "{line} = {answer}")
 }
 
 /// What the call of a line answers.
@@ -45,8 +41,8 @@ fn answer_to(alloc: Global, line: &str) -> Result<String, AllocError> {
         "number" => order_tokens::number(alloc, asked),
         "fields" => fields::fields(alloc, asked),
         "first" => fields::first(alloc, asked),
-        "message" => messages::message(alloc, asked),
-        "body" => messages::body(alloc, asked),
+        "message" => messages::message(alloc, Part::Whole, asked),
+        "body" => messages::message(alloc, Part::Body, asked),
         _ => String::from_str(alloc, "no such call"),
     }
 }

@@ -1,6 +1,7 @@
 //! FIX messages as types: read from fields, and written in their own order.
 
-use crate::fields::{fields_of, shown};
+use crate::fields::fields_of;
+use case_lines::shown;
 use fix_fields::PrintedFields;
 use fix_types::{
     CancelReject, CancelRequest, Fields, NewOrder, ReplaceRequest, Report, SessionRefusal,
@@ -8,14 +9,103 @@ use fix_types::{
 };
 use std::alloc::{AllocError, Global};
 
-/// A message, or why fields are none.
-type Read<M> = Result<M, SessionRefusal>;
+/// A message that is written as a whole, and as a copy of it or, of a report or a reject, without its type.
+trait Written: TextWire<Fields, TextFault> {
+    /// The message as its copy is written; none of one that has none.
+    fn put_copy(&self, alloc: Global) -> Result<Option<Fields>, AllocError>;
 
-/// Running out of memory, apart from refusals.
-fn read<M: Drop>(read: Result<M, TextFault>) -> Result<Read<M>, AllocError> {
-    match read {
-        Ok(message) => Ok(Ok(message)),
-        Err(TextFault::Refused(refusal)) => Ok(Err(refusal)),
+    /// Adds the body of a report or a reject.
+    fn add_body(&self, body: &mut PrintedFields) -> Result<(), AllocError>;
+}
+
+impl Written for NewOrder {
+    fn put_copy(&self, alloc: Global) -> Result<Option<Fields>, AllocError> {
+        Ok(Some(self.copied(alloc)?.put(alloc)?))
+    }
+
+    fn add_body(&self, _body: &mut PrintedFields) -> Result<(), AllocError> {
+        Ok(())
+    }
+}
+
+impl Written for CancelRequest {
+    fn put_copy(&self, alloc: Global) -> Result<Option<Fields>, AllocError> {
+        Ok(Some(self.copied(alloc)?.put(alloc)?))
+    }
+
+    fn add_body(&self, _body: &mut PrintedFields) -> Result<(), AllocError> {
+        Ok(())
+    }
+}
+
+impl Written for ReplaceRequest {
+    fn put_copy(&self, alloc: Global) -> Result<Option<Fields>, AllocError> {
+        Ok(Some(self.copied(alloc)?.put(alloc)?))
+    }
+
+    fn add_body(&self, _body: &mut PrintedFields) -> Result<(), AllocError> {
+        Ok(())
+    }
+}
+
+impl Written for Report {
+    fn put_copy(&self, _alloc: Global) -> Result<Option<Fields>, AllocError> {
+        Ok(None)
+    }
+
+    fn add_body(&self, body: &mut PrintedFields) -> Result<(), AllocError> {
+        self.push_body(body)
+    }
+}
+
+impl Written for CancelReject {
+    fn put_copy(&self, _alloc: Global) -> Result<Option<Fields>, AllocError> {
+        Ok(None)
+    }
+
+    fn add_body(&self, body: &mut PrintedFields) -> Result<(), AllocError> {
+        self.push_body(body)
+    }
+}
+
+/// How a message is shown.
+#[derive(Clone, Copy)]
+pub enum Part {
+    /// As it is written, and as its copy is.
+    Whole,
+    /// The body of a report or a reject: its fields without the type.
+    Body,
+}
+
+/// The message of a text, by its type, as it is written; or the tag and the reason of its refusal.
+pub fn message(alloc: Global, part: Part, text: &str) -> Result<String, AllocError> {
+    match fields_of(alloc, text)? {
+        Some(fields) => message_of(alloc, part, &fields),
+        None => String::from_str(alloc, "no fields"),
+    }
+}
+
+/// The same of its fields.
+fn message_of(alloc: Global, part: Part, fields: &Fields) -> Result<String, AllocError> {
+    match (part, fields.first(35)) {
+        (_, Some(b"8")) => read::<Report>(alloc, part, fields),
+        (_, Some(b"9")) => read::<CancelReject>(alloc, part, fields),
+        (Part::Whole, Some(b"D")) => read::<NewOrder>(alloc, part, fields),
+        (Part::Whole, Some(b"F")) => read::<CancelRequest>(alloc, part, fields),
+        (Part::Whole, Some(b"G")) => read::<ReplaceRequest>(alloc, part, fields),
+        _ => String::from_str(alloc, "no such type"),
+    }
+}
+
+/// The message that fields are, or the tag and the reason of their refusal.
+fn read<M: Written + Drop>(
+    alloc: Global,
+    part: Part,
+    fields: &Fields,
+) -> Result<String, AllocError> {
+    match M::get(alloc, fields) {
+        Ok(message) => shown_message(alloc, part, &message),
+        Err(TextFault::Refused(refusal)) => refused(alloc, refusal),
         Err(TextFault::NoMemory) => Err(AllocError),
     }
 }
@@ -25,119 +115,35 @@ fn refused(alloc: Global, refusal: SessionRefusal) -> Result<String, AllocError>
     format!(in alloc; "tag {} reason {}", refusal.tag, refusal.reason)
 }
 
-/// A message and its copy as they are written.
-fn both<M: TextWire<Fields, TextFault>>(
-    alloc: Global,
-    message: &M,
-    copy: &M,
-) -> Result<String, AllocError> {
+/// A message as it is written.
+fn shown_message<M: Written>(alloc: Global, part: Part, message: &M) -> Result<String, AllocError> {
+    match part {
+        Part::Whole => shown_whole(alloc, message),
+        Part::Body => shown_body(alloc, message),
+    }
+}
+
+/// A message as it and its copy are written.
+fn shown_whole<M: Written>(alloc: Global, message: &M) -> Result<String, AllocError> {
     let written = message.put(alloc)?;
-    if written.text() == copy.put(alloc)?.text() {
+    if is_copied(alloc, message, written.text())? {
         shown(alloc, written.text())
     } else {
         String::from_str(alloc, "another copy")
     }
 }
 
-/// The message of a text, by its type, as it is written; or the tag and the reason of its refusal.
-pub fn message(alloc: Global, text: &str) -> Result<String, AllocError> {
-    match fields_of(alloc, text)? {
-        Some(fields) => message_of(alloc, &fields),
-        None => String::from_str(alloc, "no fields"),
+/// Whether a message's copy, where it has one, is written so.
+fn is_copied<M: Written>(alloc: Global, message: &M, text: &[u8]) -> Result<bool, AllocError> {
+    match message.put_copy(alloc)? {
+        Some(copy) => Ok(copy.text() == text),
+        None => Ok(true),
     }
 }
 
-/// The same of its fields.
-fn message_of(alloc: Global, fields: &Fields) -> Result<String, AllocError> {
-    match fields.first(35) {
-        Some(b"D") => new_order(alloc, fields),
-        Some(b"F") => cancel_request(alloc, fields),
-        Some(b"G") => replace_request(alloc, fields),
-        Some(b"8") => report(alloc, fields),
-        Some(b"9") => cancel_reject(alloc, fields),
-        _ => String::from_str(alloc, "no such type"),
-    }
-}
-
-fn new_order(alloc: Global, fields: &Fields) -> Result<String, AllocError> {
-    match read(NewOrder::get(alloc, fields))? {
-        Ok(order) => both(alloc, &order, &order.copied(alloc)?),
-        Err(refusal) => refused(alloc, refusal),
-    }
-}
-
-fn cancel_request(alloc: Global, fields: &Fields) -> Result<String, AllocError> {
-    match read(CancelRequest::get(alloc, fields))? {
-        Ok(request) => both(alloc, &request, &request.copied(alloc)?),
-        Err(refusal) => refused(alloc, refusal),
-    }
-}
-
-fn replace_request(alloc: Global, fields: &Fields) -> Result<String, AllocError> {
-    match read(ReplaceRequest::get(alloc, fields))? {
-        Ok(request) => with_copy(alloc, &request),
-        Err(refusal) => refused(alloc, refusal),
-    }
-}
-
-/// A request and its copy as they are written.
-fn with_copy(alloc: Global, request: &ReplaceRequest) -> Result<String, AllocError> {
-    let copy = request.copied(alloc)?;
-    both(alloc, request, &copy)
-}
-
-fn report(alloc: Global, fields: &Fields) -> Result<String, AllocError> {
-    match read(Report::get(alloc, fields))? {
-        Ok(report) => shown(alloc, report.put(alloc)?.text()),
-        Err(refusal) => refused(alloc, refusal),
-    }
-}
-
-fn cancel_reject(alloc: Global, fields: &Fields) -> Result<String, AllocError> {
-    match read(CancelReject::get(alloc, fields))? {
-        Ok(reject) => shown(alloc, reject.put(alloc)?.text()),
-        Err(refusal) => refused(alloc, refusal),
-    }
-}
-
-/// The body of the report or the reject that a text is: its fields without the type.
-pub fn body(alloc: Global, text: &str) -> Result<String, AllocError> {
-    match fields_of(alloc, text)? {
-        Some(fields) => body_of(alloc, &fields),
-        None => String::from_str(alloc, "no fields"),
-    }
-}
-
-/// The body of a report or a reject.
-fn body_of(alloc: Global, fields: &Fields) -> Result<String, AllocError> {
-    match fields.first(35) {
-        Some(b"9") => reject_body(alloc, fields),
-        _ => report_body(alloc, fields),
-    }
-}
-
-fn reject_body(alloc: Global, fields: &Fields) -> Result<String, AllocError> {
-    match read(CancelReject::get(alloc, fields))? {
-        Ok(reject) => shown_reject(alloc, &reject),
-        Err(refusal) => refused(alloc, refusal),
-    }
-}
-
-fn shown_reject(alloc: Global, reject: &CancelReject) -> Result<String, AllocError> {
+/// The body of a message.
+fn shown_body<M: Written>(alloc: Global, message: &M) -> Result<String, AllocError> {
     let mut body = PrintedFields::with_capacity(alloc, 0)?;
-    reject.push_body(&mut body)?;
-    shown(alloc, body.text())
-}
-
-fn report_body(alloc: Global, fields: &Fields) -> Result<String, AllocError> {
-    match read(Report::get(alloc, fields))? {
-        Ok(report) => shown_report(alloc, &report),
-        Err(refusal) => refused(alloc, refusal),
-    }
-}
-
-fn shown_report(alloc: Global, report: &Report) -> Result<String, AllocError> {
-    let mut body = PrintedFields::with_capacity(alloc, 0)?;
-    report.push_body(&mut body)?;
+    message.add_body(&mut body)?;
     shown(alloc, body.text())
 }

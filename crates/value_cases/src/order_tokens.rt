@@ -1,13 +1,13 @@
 //! Tokens and their numbers.
 
-use crate::words;
+use crate::decimals;
 use std::alloc::{AllocError, Global};
 use std::str;
 use tokens::Token;
 
 /// The token of a number.
 pub fn token(alloc: Global, word: &str) -> Result<String, AllocError> {
-    let Some(number) = words::number::<u64>(word) else {
+    let Some(number) = decimals::number::<u64>(word) else {
         return String::from_str(alloc, "no number");
     };
     match Token::of(number) {
