@@ -1,10 +1,49 @@
 //! Packets by themselves and in a stream, and how they are shown.
 
-use crate::bytes::{bytes_of, show_bytes, show_number};
-use crate::line::{number_of, words_of};
-use soup_packets::{Packet, PacketFault, Packets, Payload};
-use soup_session::WholeWire;
+use soup_packets::{Packet, PacketFault, Packets, Payload, WholeWire};
 use std::alloc::{AllocError, Global};
+
+/// Makes a call on bytes, and shows what comes of it. False where it is none of these, or can't be made.
+pub fn step(
+    alloc: Global,
+    reader: &mut Packets,
+    call: &str,
+    bytes: &[u8],
+    shown: &mut Vec<u8>,
+) -> Result<bool, AllocError> {
+    match call {
+        "feed" => feed(alloc, reader, bytes, shown)?,
+        "bytes" => {
+            for byte in bytes {
+                feed(alloc, reader, &[*byte], shown)?;
+            }
+        }
+        "reads" => show_read(alloc, bytes, shown)?,
+        "writes" => return writes(alloc, bytes, shown),
+        "zeros" => return zeros(alloc, bytes, shown),
+        _ => return Ok(false),
+    }
+    Ok(true)
+}
+
+/// Feeds a piece of a stream, and shows each packet that is whole then, or that a length of 0 stands there.
+fn feed(
+    alloc: Global,
+    reader: &mut Packets,
+    piece: &[u8],
+    shown: &mut Vec<u8>,
+) -> Result<(), AllocError> {
+    match reader.feed(alloc, piece) {
+        Ok(packets) => {
+            for packet in &packets {
+                show_packet(packet, shown)?;
+            }
+            Ok(())
+        }
+        Err(PacketFault::Empty) => shown.extend_from_slice(b"empty\n"),
+        Err(PacketFault::NoMemory) => Err(AllocError),
+    }
+}
 
 /// A packet of a type and these bytes; none where they are too many.
 pub fn packet_of(alloc: Global, kind: u8, bytes: &[u8]) -> Result<Option<Packet>, AllocError> {
@@ -17,116 +56,54 @@ pub fn packet_of(alloc: Global, kind: u8, bytes: &[u8]) -> Result<Option<Packet>
     }))
 }
 
-/// Adds the bytes of a packet, in a line of their own.
-pub fn show_packet(alloc: Global, shown: &mut String, packet: &Packet) -> Result<(), AllocError> {
-    let mut bytes = Vec::new(alloc);
-    packet.put(&mut bytes)?;
-    show_bytes(shown, bytes.as_slice())?;
-    shown.push('\n')?;
+/// Shows the bytes of a packet, in a line of their own.
+pub fn show_packet(packet: &Packet, shown: &mut Vec<u8>) -> Result<(), AllocError> {
+    packet.put(shown)?;
+    shown.push(b'\n')?;
     Ok(())
 }
 
-/// Shows what these typed bytes are as one packet: its type and its payload. False where they aren't understood.
-pub fn reads(alloc: Global, shown: &mut String, text: &str) -> Result<bool, AllocError> {
-    match bytes_of(alloc, text)? {
-        Some(bytes) => {
-            show_read(alloc, shown, bytes.as_slice())?;
-            Ok(true)
-        }
-        None => Ok(false),
-    }
-}
-
-/// Adds what bytes are as one packet.
-fn show_read(alloc: Global, shown: &mut String, bytes: &[u8]) -> Result<(), AllocError> {
+/// Shows what bytes are as one packet: its type and its payload.
+fn show_read(alloc: Global, bytes: &[u8], shown: &mut Vec<u8>) -> Result<(), AllocError> {
     match Packet::get(alloc, bytes)? {
-        Some(packet) => show_parts(shown, &packet)?,
-        None => shown.push_str("no packet")?,
+        Some(packet) => show_parts(packet.kind, packet.payload.as_slice(), shown),
+        None => shown.extend_from_slice(b"no packet\n"),
     }
-    shown.push('\n')?;
+}
+
+/// Shows a type and a payload, in a line of their own.
+fn show_parts(kind: u8, payload: &[u8], shown: &mut Vec<u8>) -> Result<(), AllocError> {
+    shown.extend_from_slice(&[kind, b' '])?;
+    shown.extend_from_slice(payload)?;
+    shown.push(b'\n')?;
     Ok(())
 }
 
-/// Adds the type and the payload of a packet.
-fn show_parts(shown: &mut String, packet: &Packet) -> Result<(), AllocError> {
-    show_bytes(shown, &[packet.kind])?;
-    shown.push(' ')?;
-    show_bytes(shown, packet.payload.as_slice())
-}
-
-/// Shows the bytes of a packet, behind a word that stood there before. Typed are its type, a space and its payload.
-pub fn writes(alloc: Global, shown: &mut String, text: &str) -> Result<bool, AllocError> {
-    let (kind, payload) = words_of(text);
-    match kind_of(alloc, kind)? {
-        Some(kind) => writes_of(alloc, shown, kind, payload),
-        None => Ok(false),
-    }
-}
-
-/// The type that is typed so; none where it isn't one byte.
-fn kind_of(alloc: Global, text: &str) -> Result<Option<u8>, AllocError> {
-    match bytes_of(alloc, text)? {
-        Some(bytes) => Ok(only_byte(bytes.as_slice())),
-        None => Ok(None),
-    }
-}
-
-/// The byte that bytes are, where they are one.
-fn only_byte(bytes: &[u8]) -> Option<u8> {
-    match bytes {
-        [byte] => Some(*byte),
+/// Shows the bytes of a packet, behind a word that stood there before: of `TYPE PAYLOAD`, or of a type alone.
+fn writes(alloc: Global, bytes: &[u8], shown: &mut Vec<u8>) -> Result<bool, AllocError> {
+    let packet = match bytes {
+        [kind] => packet_of(alloc, *kind, b"")?,
+        [kind, b' ', payload @ ..] => packet_of(alloc, *kind, payload)?,
         _ => None,
-    }
-}
-
-/// Shows the bytes of a packet of a type and a payload that is typed so.
-fn writes_of(alloc: Global, shown: &mut String, kind: u8, text: &str) -> Result<bool, AllocError> {
-    match bytes_of(alloc, text)? {
-        Some(payload) => writes_packet(alloc, shown, kind, payload.as_slice()),
-        None => Ok(false),
-    }
-}
-
-/// Shows the bytes of a packet of a type and a payload.
-fn writes_packet(
-    alloc: Global,
-    shown: &mut String,
-    kind: u8,
-    payload: &[u8],
-) -> Result<bool, AllocError> {
-    match packet_of(alloc, kind, payload)? {
+    };
+    match packet {
         Some(packet) => {
-            show_behind(alloc, shown, &packet)?;
+            shown.extend_from_slice(b"before ")?;
+            show_packet(&packet, shown)?;
             Ok(true)
         }
         None => Ok(false),
     }
-}
-
-/// Adds the bytes of a packet behind a word, in a line of their own.
-fn show_behind(alloc: Global, shown: &mut String, packet: &Packet) -> Result<(), AllocError> {
-    let mut bytes = Vec::from_slice(alloc, b"before ")?;
-    packet.put(&mut bytes)?;
-    show_bytes(shown, bytes.as_slice())?;
-    shown.push('\n')?;
-    Ok(())
 }
 
 /// Writes an `S` with so many zeros, and reads it again: shows its first three bytes, and how many zeros follow them;
 /// then how many zeros were read.
-pub fn zeros(alloc: Global, shown: &mut String, text: &str) -> Result<bool, AllocError> {
-    match number_of(text) {
-        Some(count) => zeros_of(alloc, shown, count),
-        None => Ok(false),
-    }
-}
-
-/// The same of this number of zeros.
-fn zeros_of(alloc: Global, shown: &mut String, count: u64) -> Result<bool, AllocError> {
+fn zeros(alloc: Global, digits: &[u8], shown: &mut Vec<u8>) -> Result<bool, AllocError> {
+    let count = decimal_digits::number_of(digits).unwrap_or(0);
     let payload = copies_of(alloc, 0, count.min(Payload::MOST as u64))?;
     match packet_of(alloc, b'S', payload.as_slice())? {
         Some(packet) => {
-            show_both_ways(alloc, shown, &packet)?;
+            show_both_ways(alloc, &packet, shown)?;
             Ok(true)
         }
         None => Ok(false),
@@ -143,59 +120,36 @@ pub fn copies_of(alloc: Global, byte: u8, count: u64) -> Result<Vec<u8>, AllocEr
 }
 
 /// Writes a packet, and reads it again.
-fn show_both_ways(alloc: Global, shown: &mut String, packet: &Packet) -> Result<(), AllocError> {
+fn show_both_ways(alloc: Global, packet: &Packet, shown: &mut Vec<u8>) -> Result<(), AllocError> {
     let mut bytes = Vec::new(alloc);
     packet.put(&mut bytes)?;
-    show_head(shown, bytes.as_slice())?;
-    show_read_zeros(alloc, shown, bytes.as_slice())
-}
-
-/// Shows the first three bytes, and how many zeros follow them.
-fn show_head(shown: &mut String, bytes: &[u8]) -> Result<(), AllocError> {
-    let (head, rest) = bytes.split_at(bytes.len().min(3));
-    show_bytes(shown, head)?;
-    show_zeros(shown, rest)
-}
-
-/// Shows the type of the packet that bytes are, and how many zeros it has.
-fn show_read_zeros(alloc: Global, shown: &mut String, bytes: &[u8]) -> Result<(), AllocError> {
-    match Packet::get(alloc, bytes)? {
-        Some(read) => {
-            show_bytes(shown, &[read.kind])?;
-            show_zeros(shown, read.payload.as_slice())
-        }
+    show_head(alloc, bytes.as_slice(), shown)?;
+    match Packet::get(alloc, bytes.as_slice())? {
+        Some(read) => show_zeros(alloc, &[read.kind], read.payload.as_slice(), shown),
         None => Ok(()),
     }
 }
 
-/// Adds how many zeros these are, or the bytes where they aren't all zeros.
-fn show_zeros(shown: &mut String, bytes: &[u8]) -> Result<(), AllocError> {
-    shown.push(' ')?;
-    if bytes.iter().all(|byte| *byte == 0) {
-        show_number(shown, bytes.len() as u64)?;
-        shown.push_str(" zeros")?;
-    } else {
-        show_bytes(shown, bytes)?;
-    }
-    shown.push('\n')?;
-    Ok(())
+/// Shows the first three bytes, and how many zeros follow them.
+fn show_head(alloc: Global, bytes: &[u8], shown: &mut Vec<u8>) -> Result<(), AllocError> {
+    let (head, rest) = bytes.split_at(bytes.len().min(3));
+    show_zeros(alloc, head, rest, shown)
 }
 
-/// Feeds a piece of a stream, and shows each packet that is whole then, or that a length of 0 stands there.
-pub fn feed(
+/// Shows what stands in front of zeros, and how many they are, or the bytes where they aren't all zeros.
+fn show_zeros(
     alloc: Global,
-    shown: &mut String,
-    reader: &mut Packets,
-    piece: &[u8],
+    head: &[u8],
+    bytes: &[u8],
+    shown: &mut Vec<u8>,
 ) -> Result<(), AllocError> {
-    match reader.feed(alloc, piece) {
-        Ok(packets) => {
-            for packet in &packets {
-                show_packet(alloc, shown, packet)?;
-            }
-            Ok(())
-        }
-        Err(PacketFault::Empty) => shown.push_str("empty\n"),
-        Err(PacketFault::NoMemory) => Err(AllocError),
+    shown.extend_from_slice(head)?;
+    if bytes.iter().all(|byte| *byte == 0) {
+        shown.extend_from_slice(format!(in alloc; " {} zeros", bytes.len())?.as_bytes())?;
+    } else {
+        shown.push(b' ')?;
+        shown.extend_from_slice(bytes)?;
     }
+    shown.push(b'\n')?;
+    Ok(())
 }

@@ -1,26 +1,30 @@
 //! A market, and the packets that it gives.
 
-use crate::bytes::shown;
+use crate::packets::show_packet;
 use market_sim::{Choice, Packet, Payload, Sim, SimEvent, Trading};
-use soup_session::WholeWire;
+use soup_packets::WholeWire;
 use std::alloc::{AllocError, Global};
 
-/// The packets that a market gives for a call, one behind another.
-pub fn answer(
+/// Makes a call of a market, and shows the packets that it gives, each in a line. False where it can't be made.
+pub fn step(
     alloc: Global,
     market: &mut Sim,
     call: &str,
     bytes: &[u8],
-) -> Result<String, AllocError> {
+    shown: &mut Vec<u8>,
+) -> Result<bool, AllocError> {
     match call {
         "anew" => {
             *market = Sim::new(alloc);
-            Ok(String::new(alloc))
+            Ok(true)
         }
-        "says" => says(alloc, market, bytes),
+        "says" => says(alloc, market, bytes, shown),
         _ => match event_of(alloc, call, bytes)? {
-            Some(event) => packets_shown(alloc, market.step(alloc, event)?.as_slice()),
-            None => String::from_str(alloc, "no such call"),
+            Some(event) => {
+                show_packets(market.step(alloc, event)?.as_slice(), shown)?;
+                Ok(true)
+            }
+            None => Ok(false),
         },
     }
 }
@@ -57,20 +61,24 @@ fn packet_of(alloc: Global, bytes: &[u8]) -> Result<Option<SimEvent>, AllocError
     }
 }
 
-/// The packets that go out where the market says this.
-fn says(alloc: Global, market: &mut Sim, payload: &[u8]) -> Result<String, AllocError> {
+/// Shows the packets that go out where the market says this.
+fn says(
+    alloc: Global,
+    market: &mut Sim,
+    payload: &[u8],
+    shown: &mut Vec<u8>,
+) -> Result<bool, AllocError> {
     if payload.len() > Payload::MOST {
-        return String::from_str(alloc, "too long");
+        return Ok(false);
     }
-    let packets = market.say(alloc, payload)?;
-    packets_shown(alloc, packets.as_slice())
+    show_packets(market.say(alloc, payload)?.as_slice(), shown)?;
+    Ok(true)
 }
 
-/// The bytes of packets, one behind another.
-fn packets_shown(alloc: Global, packets: &[Packet]) -> Result<String, AllocError> {
-    let mut bytes = Vec::new(alloc);
+/// Shows packets, each in a line.
+fn show_packets(packets: &[Packet], shown: &mut Vec<u8>) -> Result<(), AllocError> {
     for packet in packets {
-        packet.put(&mut bytes)?;
+        show_packet(packet, shown)?;
     }
-    shown(alloc, bytes.as_slice())
+    Ok(())
 }
