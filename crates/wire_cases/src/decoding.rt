@@ -1,6 +1,6 @@
 //! Messages by their first byte: from the market, decoded, and towards it, sent.
 
-use crate::bytes::shown;
+use case_lines::shown;
 use ouch_codec::{Cancel, DecodeRefusal, EnterOrder, Inbound, Outbound, Replace, decode};
 use std::alloc::{AllocError, Global};
 use wire_law::FixedWire;

@@ -1,6 +1,6 @@
 //! Fields, numbers, moments, and which bytes a text may have.
 
-use crate::bytes::shown;
+use case_lines::shown;
 use fix_fields::{PrintedFields, split};
 use fix_stamp::stamp;
 use std::alloc::{AllocError, Global};

@@ -1,8 +1,8 @@
 //! Frames, one by one.
 
-use crate::bytes::shown;
 use crate::reader::{Form, Front};
 use crate::streams::{self, verdict};
+use case_lines::shown;
 use fix_fields::{is_value, split};
 use fix_framing::{Fields, FrameFault, Framer, frame, front_body};
 use std::alloc::{AllocError, Global};

@@ -2,7 +2,6 @@
 //! to standard output. `README.md` has the calls.
 #![tactic(auto)]
 
-mod bytes;
 mod decoding;
 mod fields;
 mod frames;
@@ -12,41 +11,45 @@ mod packets;
 mod reader;
 mod streams;
 
-use bytes::{bytes_of, first_word};
+use case_lines::{Answers, answer_lines, bytes_of, first_word};
 use ouch_codec::one_answer;
 use std::alloc::{AllocError, Global};
-use std::io::{self, BufRead, BufReader, Write};
+use std::io;
 
 fn main(rt: HostRuntime) -> io::Result<()> {
     // A law of what is called here. It does nothing.
     one_answer();
-    let alloc = rt.alloc();
-    for line in BufReader::new(alloc, rt.reader())?.lines(alloc) {
-        let line = line?;
-        answer_line(alloc, line.as_str(), &mut io::writer(&rt))?;
-    }
-    Ok(())
+    answer_lines(rt.alloc(), &mut Wire, rt.reader(), &mut io::writer(&rt))
 }
 
-/// Writes a line with its answer; nothing of a remark and of an empty line.
-fn answer_line<W: Write>(alloc: Global, line: &str, output: &mut W) -> io::Result<()> {
-    if line.is_empty() || line.starts_with('#') {
-        return Ok(());
+/// The calls of the wire's libraries.
+#[derive(Clone, Copy)]
+struct Wire;
+
+impl Answers for Wire {
+    fn answer(&mut self, alloc: Global, call: &str) -> Result<String, AllocError> {
+        let (subject, asked) = first_word(call);
+        let (call, text) = first_word(asked);
+        match bytes_of(alloc, text)? {
+            Some(bytes) => answer_to(alloc, subject, call, text, bytes.as_slice()),
+            None => String::from_str(alloc, "no bytes"),
+        }
     }
-    let answer = answer_to(alloc, line)?;
-    writeln!(output, "{line} = {answer}")
 }
 
-/// What the call of a line answers.
-fn answer_to(alloc: Global, line: &str) -> Result<String, AllocError> {
-    let (subject, asked) = first_word(line);
-    let (call, text) = first_word(asked);
-    let bytes = bytes_of(alloc, text)?;
+/// What the call of a line answers, with what it is asked as a text and as the bytes that are typed so.
+fn answer_to(
+    alloc: Global,
+    subject: &str,
+    call: &str,
+    text: &str,
+    bytes: &[u8],
+) -> Result<String, AllocError> {
     match subject {
-        "ouch" => decoding::answer(alloc, call, bytes.as_slice()),
-        "field" => fields::answer(alloc, call, text, bytes.as_slice()),
-        "frames" => frames::answer(alloc, call, text, bytes.as_slice()),
-        "packets" => packets::answer(alloc, call, bytes.as_slice()),
-        _ => messages::answer(alloc, subject, call, text),
+        "ouch" => decoding::answer(alloc, call, bytes),
+        "field" => fields::answer(alloc, call, text, bytes),
+        "frames" => frames::answer(alloc, call, text, bytes),
+        "packets" => packets::answer(alloc, call, bytes),
+        _ => messages::answer(alloc, subject, call, bytes),
     }
 }

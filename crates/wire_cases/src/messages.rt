@@ -1,6 +1,5 @@
 //! Messages of fixed length, each by the word of its type.
 
-use crate::bytes::{bytes_of, first_word};
 use crate::layouts::first_wrong;
 use ouch_codec::{
     Accepted, Broken, Cancel, CancelPending, CancelReject, Canceled, EnterOrder, Executed,
@@ -14,20 +13,20 @@ use wire_law::FixedWire;
 const MORE: usize = 81;
 
 /// What a call on a type of messages answers.
-pub fn answer(alloc: Global, kind: &str, call: &str, text: &str) -> Result<String, AllocError> {
+pub fn answer(alloc: Global, kind: &str, call: &str, bytes: &[u8]) -> Result<String, AllocError> {
     match kind {
-        "enter-order" => answer_of::<EnterOrder>(alloc, call, text),
-        "replace" => answer_of::<Replace>(alloc, call, text),
-        "cancel" => answer_of::<Cancel>(alloc, call, text),
-        "system-event" => answer_of::<SystemEvent>(alloc, call, text),
-        "accepted" => answer_of::<Accepted>(alloc, call, text),
-        "replaced" => answer_of::<Replaced>(alloc, call, text),
-        "canceled" => answer_of::<Canceled>(alloc, call, text),
-        "executed" => answer_of::<Executed>(alloc, call, text),
-        "broken" => answer_of::<Broken>(alloc, call, text),
-        "rejected" => answer_of::<Rejected>(alloc, call, text),
-        "cancel-pending" => answer_of::<CancelPending>(alloc, call, text),
-        "cancel-reject" => answer_of::<CancelReject>(alloc, call, text),
+        "enter-order" => answer_of::<EnterOrder>(alloc, call, bytes),
+        "replace" => answer_of::<Replace>(alloc, call, bytes),
+        "cancel" => answer_of::<Cancel>(alloc, call, bytes),
+        "system-event" => answer_of::<SystemEvent>(alloc, call, bytes),
+        "accepted" => answer_of::<Accepted>(alloc, call, bytes),
+        "replaced" => answer_of::<Replaced>(alloc, call, bytes),
+        "canceled" => answer_of::<Canceled>(alloc, call, bytes),
+        "executed" => answer_of::<Executed>(alloc, call, bytes),
+        "broken" => answer_of::<Broken>(alloc, call, bytes),
+        "rejected" => answer_of::<Rejected>(alloc, call, bytes),
+        "cancel-pending" => answer_of::<CancelPending>(alloc, call, bytes),
+        "cancel-reject" => answer_of::<CancelReject>(alloc, call, bytes),
         _ => String::from_str(alloc, "no such subject"),
     }
 }
@@ -36,16 +35,13 @@ pub fn answer(alloc: Global, kind: &str, call: &str, text: &str) -> Result<Strin
 fn answer_of<M: FixedWire + Copy + Debug>(
     alloc: Global,
     call: &str,
-    text: &str,
+    bytes: &[u8],
 ) -> Result<String, AllocError> {
     match call {
-        "is" => is_message::<M>(alloc, bytes_of(alloc, text)?.as_slice()),
-        "reads" => reads::<M>(alloc, bytes_of(alloc, text)?.as_slice()),
-        "lengths" => lengths::<M>(alloc, bytes_of(alloc, text)?),
-        "each-byte" => {
-            let (layout, bytes) = first_word(text);
-            each_byte::<M>(alloc, layout.as_bytes(), bytes_of(alloc, bytes)?)
-        }
+        "is" => is_message::<M>(alloc, bytes),
+        "reads" => reads::<M>(alloc, bytes),
+        "lengths" => lengths::<M>(alloc, bytes),
+        "each-byte" => each_byte::<M>(alloc, bytes),
         _ => String::from_str(alloc, "no such call"),
     }
 }
@@ -81,8 +77,8 @@ fn is_written_as<M: FixedWire>(message: &M, bytes: &[u8]) -> bool {
 }
 
 /// How many of these bytes with spaces behind them are a message.
-fn lengths<M: FixedWire + Copy>(alloc: Global, bytes: Vec<u8>) -> Result<String, AllocError> {
-    let mut long = bytes;
+fn lengths<M: FixedWire + Copy>(alloc: Global, bytes: &[u8]) -> Result<String, AllocError> {
+    let mut long = Vec::from_slice(alloc, bytes)?;
     long.resize(MORE, b' ')?;
     let mut lengths = String::new(alloc);
     for size in 0..=long.len() {
@@ -93,15 +89,24 @@ fn lengths<M: FixedWire + Copy>(alloc: Global, bytes: Vec<u8>) -> Result<String,
     Ok(lengths)
 }
 
-/// Whether each byte takes the values that its layout gives it, and no other; or the first that doesn't.
-fn each_byte<M: FixedWire + Copy>(
+/// Whether each byte of a message takes the values that its layout gives it, and no other; or the first that doesn't.
+/// The layout stands in front, a letter for each byte.
+fn each_byte<M: FixedWire + Copy>(alloc: Global, typed: &[u8]) -> Result<String, AllocError> {
+    let (layout, behind) = typed.split_at(M::LEN.min(typed.len()));
+    match behind {
+        [b' ', bytes @ ..] if bytes.len() == M::LEN => {
+            verdict::<M>(alloc, layout, Vec::from_slice(alloc, bytes)?)
+        }
+        _ => String::from_str(alloc, "another length"),
+    }
+}
+
+/// The same of bytes that are as many.
+fn verdict<M: FixedWire + Copy>(
     alloc: Global,
     layout: &[u8],
     bytes: Vec<u8>,
 ) -> Result<String, AllocError> {
-    if layout.len() != bytes.len() {
-        return String::from_str(alloc, "another length");
-    }
     match first_wrong::<M>(layout, bytes) {
         Some((at, byte)) => format!(in alloc; "{byte} at {at}"),
         None => String::from_str(alloc, "right"),

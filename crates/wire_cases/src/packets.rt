@@ -1,8 +1,8 @@
 //! Packets, one by one.
 
-use crate::bytes::shown;
 use crate::reader::{Form, Front};
 use crate::streams;
+use case_lines::shown;
 use soup_packets::{Packet, PacketFault, Packets, Payload, WholeWire};
 use std::alloc::{AllocError, Global};
 

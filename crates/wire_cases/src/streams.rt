@@ -1,7 +1,7 @@
 //! Streams in pieces of each size and cut at each place, taken from a reader in each of its ways.
 
-use crate::bytes::shown;
 use crate::reader::{Form, Front, Reader, Way};
+use case_lines::shown;
 use std::alloc::{AllocError, Global};
 
 const WAYS: [Way; 3] = [Way::Fed, Way::Lent, Way::Moved];
