@@ -6,28 +6,30 @@ mod files;
 mod reading;
 mod shown;
 
+use case_lines::{Answers, answer_lines, first_word};
 use files::{changed, good_file, lines_of, of_many, two_of_each};
 use reading::outcome;
 use settings_file::EXAMPLE;
 use std::alloc::{AllocError, Global};
-use std::io::{self, BufRead, BufReader, Write};
+use std::io;
 
 fn main(rt: HostRuntime) -> io::Result<()> {
-    let alloc = rt.alloc();
-    for line in BufReader::new(alloc, rt.reader())?.lines(alloc) {
-        let line = line?;
-        answer_line(alloc, line.as_str(), &mut io::writer(&rt))?;
-    }
-    Ok(())
+    answer_lines(
+        rt.alloc(),
+        &mut SettingsFiles,
+        rt.reader(),
+        &mut io::writer(&rt),
+    )
 }
 
-/// Writes a line with its answer; nothing of a remark and of an empty line.
-fn answer_line<W: Write>(alloc: Global, line: &str, output: &mut W) -> io::Result<()> {
-    if line.is_empty() || line.starts_with('#') {
-        return Ok(());
+/// The reading of settings files.
+#[derive(Clone, Copy)]
+struct SettingsFiles;
+
+impl Answers for SettingsFiles {
+    fn answer(&mut self, alloc: Global, call: &str) -> Result<String, AllocError> {
+        answer_to(alloc, call)
     }
-    let answer = answer_to(alloc, line)?;
-    writeln!(output, "{line} = {answer}")
 }
 
 /// What comes of the file that a line says.
@@ -50,12 +52,4 @@ fn with_byte(alloc: Global, asked: &str) -> Result<String, AllocError> {
     let mut bytes = Vec::from_slice(alloc, text.as_bytes())?;
     bytes.push(number.parse::<u8>().unwrap_or(0))?;
     outcome(alloc, bytes.as_slice())
-}
-
-/// The first word of a text, and what stands behind the space after it.
-fn first_word(text: &str) -> (&str, &str) {
-    match text.split_once(' ') {
-        Some(parts) => parts,
-        None => (text, ""),
-    }
 }
