@@ -1,22 +1,16 @@
-//! Fields as they are typed, and outputs as they are shown: `|` for SOH.
+//! Fields as they are typed, and outputs as they are shown.
 
+use case_lines::bytes_of;
 use fix_session::{IssuedTurn, SessionOut, SessionTurn};
 use fix_types::{AppMsg, Fields, TextWire, split};
 use itoa::Buffer;
 use std::alloc::{AllocError, Global};
 
-/// The bytes with SOH for each bar.
-pub fn with_soh(alloc: Global, text: &str) -> Result<Vec<u8>, AllocError> {
-    let mut bytes = Vec::with_capacity(alloc, text.len())?;
-    for byte in text.as_bytes() {
-        bytes.push(if *byte == b'|' { 1 } else { *byte })?;
-    }
-    Ok(bytes)
-}
-
 /// The fields of a text in which a bar ends each field but the last; none where it is no fields.
 pub fn fields_of(alloc: Global, text: &str) -> Result<Option<Fields>, AllocError> {
-    let mut bytes = with_soh(alloc, text)?;
+    let Some(mut bytes) = bytes_of(alloc, text)? else {
+        return Ok(None);
+    };
     bytes.push(1)?;
     split(alloc, bytes.as_slice())
 }
@@ -42,7 +36,7 @@ fn show_fields(shown: &mut Vec<u8>, fields: &Fields, is_whole: bool) -> Result<(
             shown.extend_from_slice(buffer.format(field.tag).as_bytes())?;
             shown.push(b'=')?;
             shown.extend_from_slice(field.value)?;
-            shown.push(b'|')?;
+            shown.push(1)?;
         }
     }
     shown.push(b'\n')?;
