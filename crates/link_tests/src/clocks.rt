@@ -1,9 +1,10 @@
 //! A clock over a system whose time goes back.
 
+use super::streams::{begins, holds};
 use link_sockets::{Clock, SystemClock};
 use std::io;
+use std::process::Abort;
 use std::sync::atomic::{AtomicUsize, Ordering};
-use std::test::Fail;
 use std::time::{self, Duration};
 
 /// A system that tells these moments, in milliseconds since 1970, one after the other, and then can't tell any.
@@ -27,15 +28,15 @@ impl time::Clock for Moments {
     }
 }
 
-#[test]
-fn a_clock_never_goes_back(rt: HostRuntime) -> Result<(), Fail> {
+/// A clock that was told these moments never shows less than before.
+pub fn never_goes_back<R: Abort + Eprint>(rt: &R) {
+    begins(rt, "a clock never goes back");
     let system = Moments {
         told: [5_000, 3_000, 4_999, 6_001],
         next: AtomicUsize::new(0),
     };
     let mut clock = SystemClock::new(&system, Duration::from_millis(1));
     for expected in [5_000, 5_000, 5_000, 6_001, 6_001, 6_001] {
-        assert_eq!(rt; clock.now_ms(), expected);
+        holds(rt, clock.now_ms() == expected);
     }
-    Ok(())
 }

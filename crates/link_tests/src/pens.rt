@@ -4,7 +4,7 @@ ghost use Rattle.std.specs.Prelude.{◌≡◌, [], IfOk};
 
 use super::gates::Kept;
 use super::lines::Sleeping;
-use super::streams::{Torn, holds};
+use super::streams::{Torn, begins, holds};
 use gate_workers::{Pen, WriterEnd};
 use link_io::LinkFault;
 use std::alloc::{AllocError, Global};
@@ -12,7 +12,8 @@ use std::process::Abort;
 use std::sync::Wait;
 use std::sync::atomic::{AtomicBool, Ordering};
 use std::test::Fail;
-use std::{thread, time};
+use std::thread::{self, Threads};
+use std::time;
 
 /// A packet of two bytes, and one of three.
 const FIRST: &[u8; 5] = b"\x00\x03+hi";
@@ -70,16 +71,33 @@ fn written<R: Wait + Abort + time::Clock>(
     wrote(rt, written, Ok(end), bytes)
 }
 
-#[test]
-fn what_one_began_another_goes_on_with(rt: HostRuntime) -> Result<(), Fail> {
-    let alloc = rt.alloc();
+/// Pens of two links one after the other, and of one that two threads write.
+pub fn pens<R: Threads + Wait + Sync + Abort + Eprint + time::Clock>(
+    rt: &R,
+    alloc: Global,
+) -> Result<(), Fail> {
+    begins(rt, "what one began another goes on with");
+    goes_on(rt, alloc)?;
+    begins(rt, "what links that are over are told is let go");
+    lets_go(rt, alloc)?;
+    begins(rt, "two threads write a link together");
+    write_together(rt, alloc)
+}
+
+/// What a prompt write began the writer goes on with.
+fn goes_on<R: Wait + Abort + time::Clock>(rt: &R, alloc: Global) -> Result<(), Fail> {
     let pen = Pen::new(gate_of_two_links(alloc)?);
-    write_two_links(&rt, alloc, &pen)?;
+    write_two_links(rt, alloc, &pen)?;
+    gave_four_lists(rt, pen)
+}
+
+/// All of its four lists were taken by this pen.
+fn gave_four_lists<R: Abort>(rt: &R, pen: Pen<Torn, Kept>) -> Result<(), Fail> {
     let Ok(gate) = pen.into_gate() else {
         return Err(Fail::new("a link is open"));
     };
-    holds(&rt, gate.lists.is_empty());
-    holds(&rt, gate.given.len() == 4);
+    holds(rt, gate.lists.is_empty());
+    holds(rt, gate.given.len() == 4);
     Ok(())
 }
 
@@ -119,17 +137,16 @@ fn opens_the_second<R: Wait + Abort + time::Clock>(
     holds(rt, pen.write(alloc));
 }
 
-#[test]
-fn what_links_that_are_over_are_told_is_let_go(rt: HostRuntime) -> Result<(), Fail> {
-    let alloc = rt.alloc();
+/// What links that are over are told is let go.
+fn lets_go<R: Wait + Abort + time::Clock>(rt: &R, alloc: Global) -> Result<(), Fail> {
     let pen = Pen::new(gate_of_two_links(alloc)?);
-    pen.let_go(&rt, alloc);
-    holds(&rt, opens(&rt, alloc, &pen, 1, 100));
-    pen.let_go(&rt, alloc);
-    let Err(pen) = pen.into_gate() else {
-        return Err(Fail::new("no link is open"));
-    };
-    write_and_let_go(&rt, alloc, &pen)
+    pen.let_go(rt, alloc);
+    holds(rt, opens(rt, alloc, &pen, 1, 100));
+    pen.let_go(rt, alloc);
+    match pen.into_gate() {
+        Ok(_) => Err(Fail::new("no link is open")),
+        Err(pen) => write_and_let_go(rt, alloc, &pen),
+    }
 }
 
 /// Writes link 1 to its end, and lets what link 2 is told go before that is opened.
@@ -158,27 +175,40 @@ fn gate_of_many(alloc: Global) -> Result<Kept, AllocError>
     Ok(gate)
 }
 
-#[test]
-fn two_threads_write_a_link_together(rt: HostRuntime) -> Result<(), Fail> {
-    let alloc = rt.alloc();
+/// Two threads write the thousand lists of a link.
+fn write_together<R: Threads + Wait + Abort + time::Clock>(
+    rt: &R,
+    alloc: Global,
+) -> Result<(), Fail> {
     let pen = Pen::new(gate_of_many(alloc)?);
-    holds(&rt, opens(&rt, alloc, &pen, 1, 7));
+    holds(rt, opens(rt, alloc, &pen, 1, 7));
     let stop = AtomicBool::new(false);
-    let shared = &pen;
-    let flag = &stop;
-    thread::scope(thread::scope_env(), &rt, |scope| {
-        let Ok(other) = scope.spawn(move || {
-            for _ in 0..10_000 {
-                let _ = shared.write(alloc);
-            }
-            flag.store(true, Ordering::SeqCst);
-        }) else {
+    write_at_once(rt, alloc, &pen, &stop)
+}
+
+/// One thread writes again and again and then sets the flag; this one writes until that is set.
+fn write_at_once<R: Threads + Wait + Abort + time::Clock>(
+    rt: &R,
+    alloc: Global,
+    pen: &Pen<Torn, Kept>,
+    stop: &AtomicBool,
+) -> Result<(), Fail> {
+    thread::scope(thread::scope_env(), rt, |scope| {
+        let Ok(other) = scope.spawn(move || write_often(alloc, pen, stop)) else {
             return Err(Fail::new("no thread"));
         };
-        let ended = written_in_turns(&rt, alloc, shared, flag);
-        other.join(&rt);
+        let ended = written_in_turns(rt, alloc, pen, stop);
+        other.join(rt);
         ended
     })
+}
+
+/// Writes ten thousand times, and then sets the flag.
+fn write_often(alloc: Global, pen: &Pen<Torn, Kept>, stop: &AtomicBool) {
+    for _ in 0..10_000 {
+        let _ = pen.write(alloc);
+    }
+    stop.store(true, Ordering::SeqCst);
 }
 
 /// Writes what the link is told to its end: all of the thousand lists, in order.

@@ -53,97 +53,94 @@ fn gate_of<'a, R>(
     }
 }
 
-/// A reader's gate, whose put of this number waits for a flag.
-fn reading_gate<'a, R>(
-    rt: &'a R,
-    alloc: Global,
-    seen: &'a Seen,
-    waits_at: u32,
-    goes_on: &'a AtomicBool,
-) -> Waiting<'a, R> {
-    gate_of(rt, alloc, seen, waits_at, goes_on, &seen.never)
-}
-
-/// So many links of these bytes; where `fails_at` of them are left, opening fails once.
-fn links_of<'a>(
-    alloc: Global,
+/// What a line is served: so many links of these bytes, of which opening fails once where `fails_at` are left; and
+/// which put of its reader's gate waits, and for what.
+#[derive(Clone, Copy)]
+struct Serving<'a> {
+    peer: Recipient,
     stream: &'a [u8],
     links: u32,
     fails_at: u32,
-    seen: &'a Seen,
-) -> Links<'a> {
-    Links {
+    waits_at: u32,
+    goes_on: &'a AtomicBool,
+}
+
+/// What a client of this number is served: one link of these bytes.
+fn client<'a>(number: u16, stream: &'a [u8], waits_at: u32, goes_on: &'a AtomicBool) -> Serving<'a>
+    requires { 1 ≤ number }
+{
+    Serving {
+        peer: Recipient::Client(ClientNumber::new(number)),
         stream,
-        left: links,
-        fails_at,
-        bytes: &seen.bytes,
-        often: &seen.often,
-        ends: Vec::new(alloc),
+        links: 1,
+        fails_at: 0,
+        waits_at,
+        goes_on,
     }
 }
 
-/// A line over these links, this gate and this pen.
+/// The line of what is served over this pen.
 fn line_of<'p, 'a, R: time::Clock>(
     rt: &'a R,
-    peer: Recipient,
-    opener: Links<'a>,
-    reader: Waiting<'a, R>,
+    alloc: Global,
+    seen: &'a Seen,
+    line: Serving<'a>,
     pen: &'p TestPen<'a, R>,
 ) -> TestLine<'p, 'a, R> {
     Line {
-        peer,
+        peer: line.peer,
         steps: 1_000,
         fault: None,
-        opener,
+        opener: Links {
+            stream: line.stream,
+            left: line.links,
+            fails_at: line.fails_at,
+            bytes: &seen.bytes,
+            often: &seen.often,
+            ends: Vec::new(alloc),
+        },
         reader: Worker {
-            gate: reader,
+            gate: gate_of(rt, alloc, seen, line.waits_at, line.goes_on, &seen.never),
             clock: Sleeping::new(rt, None),
         },
         writer: PenWorker::new(pen, Sleeping::new(rt, None)),
     }
 }
 
-/// Serves lines; no time passes.
+type TestTicks<'a, R> = Option<Ticks<'a, Waiting<'a, R>, Sleeping<'a, R>>>;
+
+/// Ticks of two clients and a port, which end as they went round three times.
+fn three_rounds<'a, R: time::Clock>(rt: &'a R, alloc: Global, seen: &'a Seen) -> TestTicks<'a, R> {
+    Some(Ticks {
+        clients: 2,
+        ports: 1,
+        is_over: &seen.second,
+        gate: gate_of(rt, alloc, seen, 0, &seen.never, &seen.never),
+        clock: Sleeping::new(rt, Some(&seen.second)),
+    })
+}
+
+/// Serves lines, and has time pass.
 fn served<'p, 'a, R: Threads + Wait + time::Clock + Sync>(
     rt: &'a R,
     alloc: Global,
     lines: Vec<TestLine<'p, 'a, R>>,
-) -> Result<Vec<TestLine<'p, 'a, R>>, Fail> {
-    let ticks: Option<Ticks<'a, Waiting<'a, R>, Sleeping<'a, R>>> = None;
+    ticks: TestTicks<'a, R>,
+) -> Result<(Vec<TestLine<'p, 'a, R>>, TestTicks<'a, R>), Fail> {
     match serve(rt, alloc, lines, ticks) {
-        Ok((lines, _)) => Ok(lines),
+        Ok(served) => Ok(served),
         Err(_) => Err(Fail::new("not served")),
     }
 }
 
-/// Puts the line of a client of this number behind others; its one link brings these bytes.
-fn push_client<'p, 'a, R: time::Clock>(
-    rt: &'a R,
+/// Lines that are served: clients that wait for each other, a link while time passes, a port's links one after the
+/// other, and links that are closed.
+pub fn lines<R: Threads + Wait + time::Clock + Abort + Eprint + Sync>(
+    rt: &R,
     alloc: Global,
-    seen: &'a Seen,
-    lines: &mut Vec<TestLine<'p, 'a, R>>,
-    number: u16,
-    stream: &'a [u8],
-    reader: Waiting<'a, R>,
-    pen: &'p TestPen<'a, R>,
-) -> Result<(), AllocError>
-    requires { 1 ≤ number }
-{
-    let links = links_of(alloc, stream, 1, 0, seen);
-    let client = Recipient::Client(ClientNumber::new(number));
-    Ok(lines.push(line_of(rt, client, links, reader, pen))?)
-}
-
-/// The pen of a client that is told a heartbeat, which sets `is_taken` as it is taken.
-fn told_pen<'a, R: time::Clock>(
-    rt: &'a R,
-    alloc: Global,
-    seen: &'a Seen,
-    is_taken: &'a AtomicBool,
-) -> Result<TestPen<'a, R>, Fail> {
-    let mut gate = gate_of(rt, alloc, seen, 0, &seen.never, is_taken);
-    gate.kept.lay(1, HEARTBEAT.as_slice())?;
-    Ok(Pen::new(gate))
+) -> Result<(), Fail> {
+    two_clients_wait(rt, alloc)?;
+    single_lines(rt, alloc)
 }
 
 /// A logon without a header, as a frame, and a heartbeat behind it.
@@ -193,13 +190,15 @@ const WAITS: [(&str, Waits, &[u8], usize); 3] = [
     ),
 ];
 
-#[test]
-fn two_clients_that_wait(rt: HostRuntime) -> Result<(), Fail> {
+fn two_clients_wait<R: Threads + Wait + time::Clock + Abort + Eprint + Sync>(
+    rt: &R,
+    alloc: Global,
+) -> Result<(), Fail> {
     for (name, waits, stream, events) in &WAITS {
-        begins(&rt, name);
+        begins(rt, name);
         let seen = Seen::new();
-        two_clients(&rt, rt.alloc(), &seen, *waits, stream, *events)?;
-        look_at_flags(&rt, &seen);
+        two_clients(rt, alloc, &seen, *waits, stream, *events)?;
+        look_at_flags(rt, &seen);
     }
     Ok(())
 }
@@ -208,6 +207,18 @@ fn two_clients_that_wait(rt: HostRuntime) -> Result<(), Fail> {
 fn look_at_flags<R: Abort>(rt: &R, seen: &Seen) {
     holds(rt, !seen.is_failed.load(Ordering::SeqCst));
     holds(rt, seen.bytes.load(Ordering::SeqCst) == 52);
+}
+
+/// The pen of a client that is told a heartbeat, which sets `is_taken` as it is taken.
+fn told_pen<'a, R: time::Clock>(
+    rt: &'a R,
+    alloc: Global,
+    seen: &'a Seen,
+    is_taken: &'a AtomicBool,
+) -> Result<TestPen<'a, R>, Fail> {
+    let mut gate = gate_of(rt, alloc, seen, 0, &seen.never, is_taken);
+    gate.kept.lay(1, HEARTBEAT.as_slice())?;
+    Ok(Pen::new(gate))
 }
 
 /// Two clients, each of which is told a heartbeat; the link of the first brings these bytes, which are so many events
@@ -242,21 +253,12 @@ fn serve_both<'p, 'a, R: Threads + Wait + time::Clock + Abort + Sync>(
     } else {
         &seen.second
     };
+    let first = client(1, stream, waits.first, goes_on);
+    let second = client(2, HEARTBEAT.as_slice(), waits.second, &seen.first);
     let mut lines = Vec::new(alloc);
-    let reader = reading_gate(rt, alloc, seen, waits.first, goes_on);
-    push_client(rt, alloc, seen, &mut lines, 1, stream, reader, one)?;
-    let reader = reading_gate(rt, alloc, seen, waits.second, &seen.first);
-    push_client(
-        rt,
-        alloc,
-        seen,
-        &mut lines,
-        2,
-        HEARTBEAT.as_slice(),
-        reader,
-        two,
-    )?;
-    let lines = served(rt, alloc, lines)?;
+    lines.push(line_of(rt, alloc, seen, first, one))?;
+    lines.push(line_of(rt, alloc, seen, second, two))?;
+    let (lines, _) = served(rt, alloc, lines, None)?;
     look_at_both(rt, lines.as_slice(), events)
 }
 
@@ -301,77 +303,181 @@ fn is_of<'p, 'a, R: Abort + time::Clock>(rt: &'a R, line: &TestLine<'p, 'a, R>, 
     holds(rt, line.fault.is_none());
 }
 
-/// While a client's link is served time passes: its put waits until ticks went round three times.
-#[test]
-fn time_passes_while_a_link_is_served(rt: HostRuntime) -> Result<(), Fail> {
-    let seen = Seen::new();
-    passes_meanwhile(&rt, rt.alloc(), &seen)?;
-    holds(&rt, !seen.is_failed.load(Ordering::SeqCst));
+/// A line that is served alone.
+#[derive(Clone, Copy)]
+enum Single {
+    /// While a client's link is served time passes: its first put waits until ticks went round three times.
+    Ticked,
+    /// A port has three links one after the other, of which the second is closed.
+    Three,
+    /// A client's link is closed, and told so many heartbeats more; its put of this number waits until the last of
+    /// them is taken: 0 is none.
+    Closed(u32, u32),
+}
+
+const SINGLES: [(&str, Single); 4] = [
+    ("time passes while a link is served", Single::Ticked),
+    ("a port has three links one after the other", Single::Three),
+    ("a closed link is shut down", Single::Closed(0, 0)),
+    (
+        "what a link that is over is told is let go",
+        Single::Closed(2, 3),
+    ),
+];
+
+fn single_lines<R: Threads + Wait + time::Clock + Abort + Eprint + Sync>(
+    rt: &R,
+    alloc: Global,
+) -> Result<(), Fail> {
+    for (name, single) in &SINGLES {
+        begins(rt, name);
+        let seen = Seen::new();
+        serve_single(rt, alloc, &seen, *single)?;
+        look_at_seen(rt, &seen, *single);
+    }
     Ok(())
 }
 
-fn passes_meanwhile<'a, R: Threads + Wait + time::Clock + Abort + Sync>(
-    rt: &'a R,
-    alloc: Global,
-    seen: &'a Seen,
-) -> Result<(), Fail> {
-    let pen = told_pen(rt, alloc, seen, &seen.first)?;
-    serve_with_ticks(rt, alloc, seen, &pen)
-}
-
-/// Ticks of two clients and a port, which end as they went round three times.
-fn three_rounds<'a, R: time::Clock>(
-    rt: &'a R,
-    alloc: Global,
-    seen: &'a Seen,
-) -> Option<Ticks<'a, Waiting<'a, R>, Sleeping<'a, R>>> {
-    Some(Ticks {
-        clients: 2,
-        ports: 1,
-        is_over: &seen.second,
-        gate: reading_gate(rt, alloc, seen, 0, &seen.never),
-        clock: Sleeping::new(rt, Some(&seen.second)),
-    })
-}
-
-fn serve_with_ticks<'p, 'a, R: Threads + Wait + time::Clock + Abort + Sync>(
-    rt: &'a R,
-    alloc: Global,
-    seen: &'a Seen,
-    pen: &'p TestPen<'a, R>,
-) -> Result<(), Fail> {
-    let reader = reading_gate(rt, alloc, seen, 1, &seen.second);
-    let mut lines = Vec::new(alloc);
-    push_client(
-        rt,
-        alloc,
-        seen,
-        &mut lines,
-        1,
-        HEARTBEAT.as_slice(),
-        reader,
-        pen,
-    )?;
-    match serve(rt, alloc, lines, three_rounds(rt, alloc, seen)) {
-        Ok((lines, ticks)) => look_at_ticks(rt, lines.as_slice(), ticks),
-        Err(_) => Err(Fail::new("not served")),
+/// What was counted of a line that was served: nobody waited in vain, and each link of a port has its writer woken once
+/// as it ends; a closed link is shut down once, and nothing is written onto it.
+fn look_at_seen<R: Abort>(rt: &R, seen: &Seen, single: Single) {
+    holds(rt, !seen.is_failed.load(Ordering::SeqCst));
+    match single {
+        Single::Ticked => {}
+        Single::Three => holds(rt, seen.woken.load(Ordering::SeqCst) == 3),
+        Single::Closed(_, _) => {
+            holds(rt, seen.often.load(Ordering::SeqCst) == 1);
+            holds(rt, seen.bytes.load(Ordering::SeqCst) == 0);
+        }
     }
 }
 
-/// Three ticks of each client and port were put, and all events of the link.
-fn look_at_ticks<'p, 'a, R: Abort + time::Clock>(
+/// The gate of a line's pen, as its writer finds it. As its last list is taken the first flag is set.
+fn writing_gate<'a, R: time::Clock>(
     rt: &'a R,
-    lines: &[TestLine<'p, 'a, R>],
-    ticks: Option<Ticks<'a, Waiting<'a, R>, Sleeping<'a, R>>>,
+    alloc: Global,
+    seen: &'a Seen,
+    single: Single,
+) -> Result<Waiting<'a, R>, AllocError>
+    ensures { IfOk result (λ gate. gate.kept.given.items ≡ []) }
+{
+    let mut gate = gate_of(rt, alloc, seen, 0, &seen.never, &seen.first);
+    lay(&mut gate.kept, single)?;
+    Ok(gate)
+}
+
+/// Lays what the link is told: a heartbeat, or a `Close`, with heartbeats for link 1 behind.
+fn lay(kept: &mut Kept, single: Single) -> Result<(), AllocError>
+    ensures { kept.new.given ≡ kept.old.given }
+{
+    match single {
+        Single::Ticked => kept.lay(1, HEARTBEAT.as_slice()),
+        Single::Three => lay_close(kept, 2, 0),
+        Single::Closed(late, _) => lay_close(kept, 1, late),
+    }
+}
+
+/// Lays a list with a `Close` of a link, and so many heartbeats for link 1 behind.
+fn lay_close(kept: &mut Kept, link: u64, late: u32) -> Result<(), AllocError>
+    ensures { kept.new.given ≡ kept.old.given }
+{
+    for _ in 0..late {
+        kept.lay(1, HEARTBEAT.as_slice())?;
+    }
+    Ok(kept.lists.push(ShortList::of(LinkOut::Close { link }))?)
+}
+
+fn serve_single<'a, R: Threads + Wait + time::Clock + Abort + Sync>(
+    rt: &'a R,
+    alloc: Global,
+    seen: &'a Seen,
+    single: Single,
 ) -> Result<(), Fail> {
-    let Some(ticks) = ticks else {
-        return Err(Fail::new("no ticks came back"));
+    let pen = Pen::new(writing_gate(rt, alloc, seen, single)?);
+    serve_over(rt, alloc, seen, single, &pen)
+}
+
+/// What the line is served, and the ticks beside it.
+fn serving_of<'a>(seen: &'a Seen, single: Single) -> Serving<'a> {
+    match single {
+        Single::Ticked => client(1, HEARTBEAT.as_slice(), 1, &seen.second),
+        Single::Three => Serving {
+            peer: Recipient::Port(PortNumber::new(1)),
+            stream: b"\x00\x01H\x00\x01H".as_slice(),
+            links: 3,
+            fails_at: 2,
+            waits_at: 0,
+            goes_on: &seen.never,
+        },
+        Single::Closed(_, waits_at) => client(1, HEARTBEAT.as_slice(), waits_at, &seen.first),
+    }
+}
+
+fn serve_over<'p, 'a, R: Threads + Wait + time::Clock + Abort + Sync>(
+    rt: &'a R,
+    alloc: Global,
+    seen: &'a Seen,
+    single: Single,
+    pen: &'p TestPen<'a, R>,
+) -> Result<(), Fail> {
+    let ticks = match single {
+        Single::Ticked => three_rounds(rt, alloc, seen),
+        _ => None,
     };
-    holds(rt, ticks.gate.kept.events.len() == 9);
+    let line = line_of(rt, alloc, seen, serving_of(seen, single), pen);
+    let (lines, ticks) = served(rt, alloc, vec![in alloc; line]?, ticks)?;
+    look_at_line(rt, alloc, single, lines.as_slice(), &ticks)
+}
+
+/// The line came back as it is to.
+fn look_at_line<'p, 'a, R: Abort + time::Clock>(
+    rt: &'a R,
+    alloc: Global,
+    single: Single,
+    lines: &[TestLine<'p, 'a, R>],
+    ticks: &TestTicks<'a, R>,
+) -> Result<(), Fail> {
     let [line] = lines else {
         return Err(Fail::new("not one line"));
     };
-    kept(rt, line, 3);
+    match single {
+        Single::Ticked => {
+            kept(rt, line, 3);
+            look_at_ticks(rt, ticks)
+        }
+        Single::Three => look_at_three(rt, alloc, line),
+        Single::Closed(_, _) => look_at_closed(rt, line),
+    }
+}
+
+/// Three ticks of each client and port were put.
+fn look_at_ticks<'a, R: Abort + time::Clock>(
+    rt: &'a R,
+    ticks: &TestTicks<'a, R>,
+) -> Result<(), Fail> {
+    match ticks {
+        Some(ticks) => {
+            holds(rt, ticks.gate.kept.events.len() == 9);
+            Ok(())
+        }
+        None => Err(Fail::new("no ticks came back")),
+    }
+}
+
+/// Three links were up, and came to their end; opening one failed.
+fn look_at_three<'p, 'a, R: Abort + time::Clock>(
+    rt: &'a R,
+    alloc: Global,
+    line: &TestLine<'p, 'a, R>,
+) -> Result<(), Fail> {
+    holds(rt, line.fault == Some(LinkFault::ReadFailed));
+    kept(rt, line, 12);
+    holds(rt, line.opener.ends.len() == 3);
+    for end in &line.opener.ends {
+        holds(rt, end.reader.is_ok() && end.fault().is_none());
+    }
+    let ups = links_up(alloc, line.reader.gate.kept.events.as_slice())?;
+    holds(rt, matches!(ups.as_slice(), [1, 2, 3]));
     Ok(())
 }
 
@@ -386,156 +492,11 @@ fn links_up(alloc: Global, events: &[Event]) -> Result<Vec<u64>, AllocError> {
     Ok(links)
 }
 
-#[test]
-fn a_port_has_three_links_one_after_the_other(rt: HostRuntime) -> Result<(), Fail> {
-    let seen = Seen::new();
-    three_links(&rt, rt.alloc(), &seen)
-}
-
-fn three_links<'a, R: Threads + Wait + time::Clock + Abort + Sync>(
-    rt: &'a R,
-    alloc: Global,
-    seen: &'a Seen,
-) -> Result<(), Fail> {
-    let pen = closing_pen(rt, alloc, seen, 2, 0)?;
-    serve_three(rt, alloc, seen, &pen)?;
-    holds(rt, seen.woken.load(Ordering::SeqCst) == 3);
-    Ok(())
-}
-
-fn serve_three<'p, 'a, R: Threads + Wait + time::Clock + Abort + Sync>(
-    rt: &'a R,
-    alloc: Global,
-    seen: &'a Seen,
-    pen: &'p TestPen<'a, R>,
-) -> Result<(), Fail> {
-    let reader = reading_gate(rt, alloc, seen, 0, &seen.never);
-    let links = links_of(alloc, b"\x00\x01H\x00\x01H".as_slice(), 3, 2, seen);
-    let port = Recipient::Port(PortNumber::new(1));
-    let mut lines = Vec::new(alloc);
-    lines.push(line_of(rt, port, links, reader, pen))?;
-    let lines = served(rt, alloc, lines)?;
-    look_at_three(rt, alloc, lines.as_slice())
-}
-
-/// Three links were up, and came to their end; opening one failed.
-fn look_at_three<'p, 'a, R: Abort + time::Clock>(
-    rt: &'a R,
-    alloc: Global,
-    lines: &[TestLine<'p, 'a, R>],
-) -> Result<(), Fail> {
-    let [line] = lines else {
-        return Err(Fail::new("not one line"));
-    };
-    holds(rt, line.fault == Some(LinkFault::ReadFailed));
-    kept(rt, line, 12);
-    holds(rt, line.opener.ends.len() == 3);
-    for end in &line.opener.ends {
-        holds(rt, end.reader.is_ok() && end.fault().is_none());
-    }
-    are_three_up(rt, alloc, line.reader.gate.kept.events.as_slice())
-}
-
-/// Links 1, 2 and 3 were up.
-fn are_three_up<R: Abort>(rt: &R, alloc: Global, events: &[Event]) -> Result<(), Fail> {
-    let ups = links_up(alloc, events)?;
-    holds(rt, matches!(ups.as_slice(), [1, 2, 3]));
-    Ok(())
-}
-
-/// The pen of a line whose link of this number is closed, and whose link 1 is told so many heartbeats more. As the last
-/// list is taken the first flag is set.
-fn closing_pen<'a, R: time::Clock>(
-    rt: &'a R,
-    alloc: Global,
-    seen: &'a Seen,
-    link: u64,
-    late: u32,
-) -> Result<TestPen<'a, R>, Fail> {
-    let mut gate = gate_of(rt, alloc, seen, 0, &seen.never, &seen.first);
-    lay_close(&mut gate.kept, link, late)?;
-    Ok(Pen::new(gate))
-}
-
-/// Lays a list with a `Close` of a link, and so many heartbeats for link 1 behind.
-fn lay_close(kept: &mut Kept, link: u64, late: u32) -> Result<(), AllocError>
-    ensures { kept.new.given ≡ kept.old.given }
-{
-    for _ in 0..late {
-        kept.lay(1, HEARTBEAT.as_slice())?;
-    }
-    Ok(kept.lists.push(ShortList::of(LinkOut::Close { link }))?)
-}
-
-/// How many heartbeats more a client is told whose link is closed, and which of its puts waits until the last of them
-/// is taken: 0 is none.
-const CLOSES: [(&str, u32, u32); 2] = [
-    ("a closed link is shut down", 0, 0),
-    ("what a link that is over is told is let go", 2, 3),
-];
-
-#[test]
-fn a_link_that_is_closed(rt: HostRuntime) -> Result<(), Fail> {
-    for (name, late, waits_at) in CLOSES {
-        begins(&rt, name);
-        let seen = Seen::new();
-        serve_closed(&rt, rt.alloc(), &seen, late, waits_at)?;
-        is_shut_unwritten(&rt, &seen);
-    }
-    Ok(())
-}
-
-/// The link was shut down once, nothing was written onto it, and nobody waited in vain.
-fn is_shut_unwritten<R: Abort>(rt: &R, seen: &Seen) {
-    holds(rt, seen.often.load(Ordering::SeqCst) == 1);
-    holds(rt, seen.bytes.load(Ordering::SeqCst) == 0);
-    holds(rt, !seen.is_failed.load(Ordering::SeqCst));
-}
-
-/// Serves a client's one link, which is closed, and is told so many heartbeats more, through a gate whose put of this
-/// number waits until the last of them is taken.
-fn serve_closed<'a, R: Threads + Wait + time::Clock + Abort + Sync>(
-    rt: &'a R,
-    alloc: Global,
-    seen: &'a Seen,
-    late: u32,
-    waits_at: u32,
-) -> Result<(), Fail> {
-    let pen = closing_pen(rt, alloc, seen, 1, late)?;
-    serve_one(rt, alloc, seen, waits_at, &pen)
-}
-
-fn serve_one<'p, 'a, R: Threads + Wait + time::Clock + Abort + Sync>(
-    rt: &'a R,
-    alloc: Global,
-    seen: &'a Seen,
-    waits_at: u32,
-    pen: &'p TestPen<'a, R>,
-) -> Result<(), Fail> {
-    let reader = reading_gate(rt, alloc, seen, waits_at, &seen.first);
-    let mut lines = Vec::new(alloc);
-    push_client(
-        rt,
-        alloc,
-        seen,
-        &mut lines,
-        1,
-        HEARTBEAT.as_slice(),
-        reader,
-        pen,
-    )?;
-    let lines = served(rt, alloc, lines)?;
-    look_at_closed(rt, lines.as_slice())
-}
-
 /// The one link was closed by the core.
 fn look_at_closed<'p, 'a, R: Abort + time::Clock>(
     rt: &'a R,
-    lines: &[TestLine<'p, 'a, R>],
+    line: &TestLine<'p, 'a, R>,
 ) -> Result<(), Fail> {
-    let [line] = lines else {
-        return Err(Fail::new("not one line"));
-    };
     let [end] = line.opener.ends.as_slice() else {
         return Err(Fail::new("not one end"));
     };

@@ -46,13 +46,20 @@ const BORROWERS: [(&str, Borrower); 4] = [
     ),
 ];
 
-#[test]
-fn links_over_loopback(rt: HostRuntime) -> Result<(), Fail> {
+/// Links over loopback, and openers that wait.
+pub fn sockets<R>(rt: &R, alloc: Global) -> Result<(), Fail>
+where
+    R: Net<Listener = TcpListener, Stream = TcpStream>,
+    R: Clock + Threads + Wait + Abort + Eprint + Sync,
+{
     for (name, borrower) in &BORROWERS {
-        begins(&rt, name);
-        lend(&rt, rt.alloc(), *borrower)?;
+        begins(rt, name);
+        lend(rt, alloc, *borrower)?;
     }
-    Ok(())
+    begins(rt, "an accept ends when its line does");
+    accepts_nothing(rt)?;
+    begins(rt, "a port is connected again after a second");
+    is_connected_again(rt, alloc)
 }
 
 /// Accepts a link over loopback, and lends it, and its peer, to a test. An acceptor of one link has no second.
@@ -243,11 +250,13 @@ where
     holds(rt, opened == expected);
 }
 
-#[test]
-fn an_accept_ends_when_its_line_does(rt: HostRuntime) -> Result<(), Fail> {
+fn accepts_nothing<R>(rt: &R) -> Result<(), Fail>
+where
+    R: Net<Listener = TcpListener, Stream = TcpStream> + Clock + Threads + Wait + Abort + Sync,
+{
     let is_over = AtomicBool::new(false);
-    let mut acceptor = Acceptor::new(&rt, "127.0.0.1:0", 3, &is_over);
-    ends_with_its_line(&rt, &mut acceptor, &is_over)
+    let mut acceptor = Acceptor::new(rt, "127.0.0.1:0", 3, &is_over);
+    ends_with_its_line(rt, &mut acceptor, &is_over)
 }
 
 /// An opener waits for its flag, and no longer, and has ended then.
@@ -292,15 +301,25 @@ where
     })
 }
 
-#[test]
-fn a_port_is_connected_again_after_a_second(rt: HostRuntime) -> Result<(), Fail> {
+fn is_connected_again<R>(rt: &R, alloc: Global) -> Result<(), Fail>
+where
+    R: Net<Listener = TcpListener, Stream = TcpStream> + Clock + Abort,
+{
+    let listener = TcpListener::bind(rt, "127.0.0.1:0")?;
+    let address = format!(in alloc; "{}", listener.local_addr()?)?;
+    connects_again(rt, listener, address.as_str())
+}
+
+/// A port's line opens two links to this listener, and none once it is gone.
+fn connects_again<R>(rt: &R, listener: TcpListener, address: &str) -> Result<(), Fail>
+where
+    R: Net<Listener = TcpListener, Stream = TcpStream> + Clock + Abort,
+{
     let is_over = AtomicBool::new(false);
-    let listener = TcpListener::bind(&rt, "127.0.0.1:0")?;
-    let address = format!(in rt.alloc(); "{}", listener.local_addr()?)?;
-    let mut connector = Connector::new(&rt, address.as_str(), 3, &is_over);
-    let second = connects_twice(&rt, &mut connector)?;
+    let mut connector = Connector::new(rt, address, 3, &is_over);
+    let second = connects_twice(rt, &mut connector)?;
     drop(listener);
-    is_refused_twice(&rt, &mut connector, second, &is_over)
+    is_refused_twice(rt, &mut connector, second, &is_over)
 }
 
 /// Nobody listens any more: a port's line can't open its next link, a second after this moment, and tries again until

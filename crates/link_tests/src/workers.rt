@@ -187,11 +187,13 @@ fn read_a_port<R: Wait + Abort + Eprint + time::Clock>(
 }
 
 /// Links are read, to their end or to a fault.
-#[test]
-fn readers(rt: HostRuntime) -> Result<(), Fail> {
-    read_clients(&rt, rt.alloc())?;
-    skip(&rt, rt.alloc());
-    Ok(read_a_port(&rt, rt.alloc())?)
+pub fn readers<R: Wait + Abort + Eprint + time::Clock>(
+    rt: &R,
+    alloc: Global,
+) -> Result<(), AllocError> {
+    read_clients(rt, alloc)?;
+    skip(rt, alloc);
+    read_a_port(rt, alloc)
 }
 
 /// Reads two packets and an empty one as port 3's link, a byte a read: how the reader ended.
@@ -279,25 +281,26 @@ fn writes_until_stopped<R: Wait + Abort + time::Clock>(
 }
 
 /// Links are written to their close, until their writers are stopped, and until a write fails.
-#[test]
-fn writers(rt: HostRuntime) -> Result<(), Fail> {
-    let alloc = rt.alloc();
-    ends_at_the_close(&rt, alloc)?;
-    begins(&rt, "a writer is stopped, and writes what lies there");
+pub fn writers<R: Wait + Abort + Eprint + time::Clock>(rt: &R, alloc: Global) -> Result<(), Fail> {
+    ends_at_the_close(rt, alloc)?;
+    begins(rt, "a writer is stopped, and writes what lies there");
     let stream = Torn::new(alloc, 100, 100);
-    writes_until_stopped(&rt, alloc, stream, Ok(WriterEnd::Stopped), b"ab", 3)?;
-    begins(&rt, "a write fails");
+    writes_until_stopped(rt, alloc, stream, Ok(WriterEnd::Stopped), b"ab", 3)?;
+    begins(rt, "a write fails");
     let stream = Torn::new(alloc, 1, 1);
-    writes_until_stopped(&rt, alloc, stream, Err(LinkFault::WriteFailed), b"a", 0)
+    writes_until_stopped(rt, alloc, stream, Err(LinkFault::WriteFailed), b"a", 0)
 }
 
 /// Three rounds of ticks.
-#[test]
-fn ticks_of_three_rounds(rt: HostRuntime) -> Result<(), Fail> {
-    let mut gate = Kept::new(rt.alloc());
+pub fn ticks_of_three_rounds<R: Wait + Abort + Eprint + time::Clock>(
+    rt: &R,
+    alloc: Global,
+) -> Result<(), AllocError> {
+    begins(rt, "three rounds of ticks");
+    let mut gate = Kept::new(alloc);
     let flag = AtomicBool::new(false);
-    let mut clock = Sleeping::new(&rt, Some(&flag));
-    ticker(&rt, rt.alloc(), 2, 1, &mut gate, &mut clock, &flag);
-    holds(&rt, clock.pauses == 3);
-    Ok(tells(&rt, rt.alloc(), &gate, b"T1T2t1T1T2t1T1T2t1")?)
+    let mut clock = Sleeping::new(rt, Some(&flag));
+    ticker(rt, alloc, 2, 1, &mut gate, &mut clock, &flag);
+    holds(rt, clock.pauses == 3);
+    tells(rt, alloc, &gate, b"T1T2t1T1T2t1T1T2t1")
 }
