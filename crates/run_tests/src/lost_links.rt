@@ -1,6 +1,6 @@
 //! A day of two clients on two ports, in which a client and a port each lose their link.
 
-use crate::threads::{ended, listening, log_on_and_buy, settings_of};
+use crate::threads::{begins, ended, holds, listening, log_on_and_buy, settings_of};
 use gateway_demo::{Acceptor, Choice, Client, DemoFault, Market, Opened, Opener, Order, connected};
 use gateway_run::{Day, RunFault, SettingsFile, end_day, run_settings, tell};
 use journal_audit::audit_file;
@@ -9,6 +9,7 @@ use std::hash::RandomState;
 use std::io::{Read, Write};
 use std::net::{Net, TcpListener, TcpStream};
 use std::process::Abort;
+use std::random::RandomSource;
 use std::sync::Wait;
 use std::sync::atomic::{AtomicBool, Ordering};
 use std::test::Fail;
@@ -171,43 +172,40 @@ struct Written {
     faults: Vec<u8>,
 }
 
-#[test]
-fn a_client_and_a_port_lose_their_links(rt: HostRuntime) -> Result<(), Fail> {
-    let alloc = rt.alloc();
-    let hasher = RandomState::new(&rt)?;
-    let mut written = Written {
-        journal: Vec::new(alloc),
-        output: Vec::new(alloc),
-        faults: Vec::new(alloc),
-    };
-    lose_links(&rt, alloc, hasher, &mut written)
+/// Has both markets listen, and serves the day.
+pub fn lose_links<R>(rt: &R, alloc: Global) -> Result<(), Fail>
+where
+    R: Threads + Wait + Sync + Clock + Eprint + Abort + RandomSource,
+    R: Net<Listener = TcpListener, Stream = TcpStream>,
+{
+    begins(rt, "a client and a port lose their links");
+    let hasher = RandomState::new(rt)?;
+    let (first, first_address) = listening(rt, alloc)?;
+    let (second, second_address) = listening(rt, alloc)?;
+    let setup = set_up(rt, alloc, &first_address, &second_address)?;
+    serve_and_audit(rt, alloc, hasher, (first, second), &setup)
 }
 
-/// Has both markets listen, and serves the day.
-fn lose_links<R>(
+/// Serves the day, and audits its journal again.
+fn serve_and_audit<R>(
     rt: &R,
     alloc: Global,
     hasher: RandomState,
-    written: &mut Written,
+    markets: (TcpListener, TcpListener),
+    setup: &Setup,
 ) -> Result<(), Fail>
 where
     R: Threads + Wait + Sync + Clock + Eprint + Abort,
     R: Net<Listener = TcpListener, Stream = TcpStream>,
 {
-    let (first, first_address) = listening(rt, alloc)?;
-    let (second, second_address) = listening(rt, alloc)?;
-    let setup = set_up(rt, alloc, &first_address, &second_address)?;
+    let mut written = Written {
+        journal: Vec::new(alloc),
+        output: Vec::new(alloc),
+        faults: Vec::new(alloc),
+    };
     let is_past = AtomicBool::new(false);
-    serves(
-        rt,
-        alloc,
-        hasher,
-        (first, second),
-        &setup,
-        &is_past,
-        written,
-    )?;
-    audits_again(rt, alloc, &setup, written)
+    serves(rt, alloc, hasher, markets, setup, &is_past, &mut written)?;
+    audits_again(rt, alloc, setup, &mut written)
 }
 
 /// The day ends well, and prints the audit.
@@ -226,14 +224,14 @@ where
 {
     let file = settings_of(alloc, setup.text.as_bytes())?;
     let ended = serve_day(rt, alloc, hasher, file, markets, setup, is_past, written);
-    assert!(rt; ended == (0, Ok(())));
-    assert!(rt; written.output.as_slice() == AUDIT);
+    holds(rt, ended == (0, Ok(())));
+    holds(rt, written.output.as_slice() == AUDIT);
     Ok(())
 }
 
 /// The journal of the day is audited as the day was, and nothing was told.
-fn audits_again(
-    rt: &impl Abort,
+fn audits_again<R: Abort>(
+    rt: &R,
     alloc: Global,
     setup: &Setup,
     written: &mut Written,
@@ -242,9 +240,9 @@ fn audits_again(
     let mut again = Vec::new(alloc);
     let journal = written.journal.as_slice();
     let status = audit_file(alloc, journal, &settings, &mut again, &mut written.faults);
-    assert!(rt; status == 0);
-    assert!(rt; again.as_slice() == AUDIT);
-    assert!(rt; written.faults.is_empty());
+    holds(rt, status == 0);
+    holds(rt, again.as_slice() == AUDIT);
+    holds(rt, written.faults.is_empty());
     Ok(())
 }
 

@@ -5,11 +5,22 @@ use gateway_run::{Day, RunFault, SettingsFile, read};
 use std::alloc::Global;
 use std::io::{Read, Write};
 use std::net::{Net, TcpListener, TcpStream};
+use std::process::Abort;
 use std::sync::atomic::{AtomicBool, Ordering};
 use std::test::Fail;
 use std::thread;
 use std::thread::{JoinHandle, SpawnError, Threads};
 use std::time::{Clock, Duration};
+
+/// Tells which day begins: the last one that is told is the one that failed.
+pub fn begins<R: Eprint>(rt: &R, name: &str) {
+    let _ = rt.eprintln(name);
+}
+
+/// This is so.
+pub fn holds<R: Abort>(rt: &R, is_so: bool) {
+    assert!(rt; is_so);
+}
 
 /// How a thread ended, or that it couldn't be had.
 pub fn ended<R: Threads, F: Drop>(
