@@ -1,6 +1,6 @@
 //! Command lines of the script program.
 
-use super::running::{Run, is_text};
+use super::running::{Run, holds};
 use script_command::run_program;
 use std::alloc::Global;
 use std::process::Abort;
@@ -60,22 +60,21 @@ fn run_by(alloc: Global, words: &[&str]) -> Run {
 }
 
 /// Each flag, and what is refused. The help goes where the outputs go, and nothing is run.
-#[test]
-fn command_lines(rt: HostRuntime) {
+pub fn command_lines<R: Abort>(rt: &R, alloc: Global) {
     for (words, status, printed, told) in &COMMAND_LINES {
-        came_to(&rt, &run_by(rt.alloc(), words), *status, printed, told);
+        came_to(rt, &run_by(alloc, words), *status, printed, told);
     }
     for words in &HELP {
-        shows_help(&rt, &run_by(rt.alloc(), words.as_slice()));
+        shows_help(rt, &run_by(alloc, words.as_slice()));
     }
 }
 
 /// A run ended with this status, printed this, and told what begins so.
-fn came_to(rt: &impl Abort, run: &Run, status: u8, printed: &str, told: &str) {
-    is_text(rt, run.output.as_slice(), printed, printed);
-    assert!(rt; run.faults.starts_with(told.as_bytes()), "{told}");
-    assert!(rt; run.faults.is_empty() == told.is_empty());
-    assert!(rt; run.status == status);
+fn came_to<R: Abort>(rt: &R, run: &Run, status: u8, printed: &str, told: &str) {
+    holds(rt, run.output.as_slice() == printed.as_bytes(), printed);
+    holds(rt, run.faults.starts_with(told.as_bytes()), told);
+    holds(rt, run.faults.is_empty() == told.is_empty(), told);
+    holds(rt, run.status == status, "the status of a command line");
 }
 
 const HELP: [[&str; 3]; 2] = [
@@ -90,15 +89,16 @@ const HELPS: [&str; 3] = [
     "Starts with no client logged on and no port logged in",
 ];
 
-fn shows_help(rt: &impl Abort, run: &Run) {
-    assert!(rt; run.status == 0);
-    assert!(rt; run.faults.is_empty());
-    assert!(rt;
-        run.output
-            .starts_with(b"Runs a script of the order gateway")
-    );
+fn shows_help<R: Abort>(rt: &R, run: &Run) {
+    holds(rt, run.status == 0, "the status of the help");
+    holds(rt, run.faults.is_empty(), "what is told with the help");
     let help = str::from_utf8(run.output.as_slice()).unwrap_or("");
+    holds(
+        rt,
+        help.starts_with("Runs a script of the order gateway"),
+        help,
+    );
     for text in HELPS {
-        assert!(rt; help.contains(text), "{text}");
+        holds(rt, help.contains(text), text);
     }
 }

@@ -1,6 +1,6 @@
 //! Files that aren't of a day that is over.
 
-use super::running::{assert_ran, audited_file, audited_so_far};
+use super::running::{assert_ran, audited_file, audited_so_far, holds};
 use std::alloc::{AllocError, Global};
 use std::process::Abort;
 use std::test::Fail;
@@ -22,15 +22,15 @@ const ONE_UP_BEFORE: &[u8; 66] = b"\0\0\0\0\0\0\0\x32GJ01\
     \0\0\0\0\0\0\0\0";
 
 /// A file is refused, with the status 2, and this is told.
-fn refuses(rt: &impl Abort, alloc: Global, file: &[u8], told: &str) -> Result<(), Fail> {
+fn refuses<R: Abort>(rt: &R, alloc: Global, file: &[u8], told: &str) -> Result<(), Fail> {
     let run = audited_file(alloc, file)?;
     assert_ran(rt, &run, "", told, 2, told);
     Ok(())
 }
 
 /// A file of these two parts is refused.
-fn refuses_both(
-    rt: &impl Abort,
+fn refuses_both<R: Abort>(
+    rt: &R,
     alloc: Global,
     first: &[u8],
     then: &[u8],
@@ -48,36 +48,39 @@ fn has_no_orders(alloc: Global, file: &[u8]) -> Result<bool, Fail> {
 }
 
 /// Of either form; and with each byte changed: the page's are told by its sum.
-#[test]
-fn a_file_without_orders(rt: HostRuntime) -> Result<(), Fail> {
-    assert!(rt; has_no_orders(rt.alloc(), ONE_UP)?);
-    assert!(rt; has_no_orders(rt.alloc(), ONE_UP_BEFORE)?);
+pub fn a_file_without_orders<R: Abort>(rt: &R, alloc: Global) -> Result<(), Fail> {
+    holds(rt, has_no_orders(alloc, ONE_UP)?, "a file without orders");
+    holds(
+        rt,
+        has_no_orders(alloc, ONE_UP_BEFORE)?,
+        "one of the first form",
+    );
     for at in 0..ONE_UP.len() {
         let mut file = *ONE_UP;
         file[at] ^= 1;
-        assert!(rt; !has_no_orders(rt.alloc(), &file)?, "byte {at}");
+        let of = format!(in alloc; "byte {at}")?;
+        holds(rt, !has_no_orders(alloc, &file)?, of.as_str());
     }
     Ok(())
 }
 
 /// A file that ends before its end is of a day that goes on, wherever it is cut: behind whole pages, or in a write that
 /// was cut short, of the page or of the end. So far it has no order. One of the first form is refused.
-#[test]
-fn each_front_of_a_file(rt: HostRuntime) -> Result<(), Fail> {
-    refuses_each_front(&rt, rt.alloc())?;
+pub fn each_front_of_a_file<R: Abort>(rt: &R, alloc: Global) -> Result<(), Fail> {
+    refuses_each_front(rt, alloc)?;
     for size in 0..ONE_UP.len() {
         let torn = if size < 74 { size } else { size - 74 };
-        let told = goes_on(rt.alloc(), torn)?;
+        let told = goes_on(alloc, torn)?;
         let front = &ONE_UP[..size];
-        refuses(&rt, rt.alloc(), front, told.as_str())?;
-        has_no_orders_so_far(&rt, rt.alloc(), front, told.as_str())?;
+        refuses(rt, alloc, front, told.as_str())?;
+        has_no_orders_so_far(rt, alloc, front, told.as_str())?;
     }
     Ok(())
 }
 
 /// A file without an order is audited so far, and this is told.
-fn has_no_orders_so_far(
-    rt: &impl Abort,
+fn has_no_orders_so_far<R: Abort>(
+    rt: &R,
     alloc: Global,
     file: &[u8],
     told: &str,
@@ -99,7 +102,7 @@ fn goes_on(alloc: Global, torn: usize) -> Result<String, AllocError> {
 
 /// A file of the first form has to be over, wherever it is cut: with page 0 where that isn't whole, else with page 1.
 /// Fewer than twelve bytes don't say the form.
-fn refuses_each_front(rt: &impl Abort, alloc: Global) -> Result<(), Fail> {
+fn refuses_each_front<R: Abort>(rt: &R, alloc: Global) -> Result<(), Fail> {
     for size in 12..ONE_UP_BEFORE.len() {
         let told = if size < 58 {
             "page 0: cut short\n"
@@ -113,19 +116,17 @@ fn refuses_each_front(rt: &impl Abort, alloc: Global) -> Result<(), Fail> {
 
 /// A byte behind the end; a byte of the page that is another, which its sum tells, also so far; in the first form its
 /// faults. A page that stands whole behind a damaged one is no crash's work; nor is an end.
-#[test]
-fn a_file_that_is_changed(rt: HostRuntime) -> Result<(), Fail> {
-    let alloc = rt.alloc();
+pub fn a_file_that_is_changed<R: Abort>(rt: &R, alloc: Global) -> Result<(), Fail> {
     let mut damaged = *ONE_UP;
     damaged[51] = 0x10;
     let mut before = *ONE_UP_BEFORE;
     before[35] = 0x10;
-    refuses(&rt, alloc, &damaged, "page 0: sum\n")?;
-    refuses(&rt, alloc, &before, "page 0: kind\n")?;
+    refuses(rt, alloc, &damaged, "page 0: sum\n")?;
+    refuses(rt, alloc, &before, "page 0: kind\n")?;
     let run = audited_so_far(alloc, &damaged)?;
-    assert_ran(&rt, &run, "", "page 0: sum\n", 2, "a damaged file so far");
+    assert_ran(rt, &run, "", "page 0: sum\n", 2, "a damaged file so far");
     let page = &ONE_UP[..74];
-    refuses_both(&rt, alloc, ONE_UP, b"\0", "page 1: head\n")?;
-    refuses_both(&rt, alloc, page, page, "page 1: number\n")?;
-    refuses_both(&rt, alloc, &damaged[..74], page, "page 0: sum\n")
+    refuses_both(rt, alloc, ONE_UP, b"\0", "page 1: head\n")?;
+    refuses_both(rt, alloc, page, page, "page 1: number\n")?;
+    refuses_both(rt, alloc, &damaged[..74], page, "page 0: sum\n")
 }

@@ -3,6 +3,7 @@
 use super::running::{Run, assert_ran, audited_file, audited_so_far};
 use journal_audit::script_file;
 use std::alloc::Global;
+use std::process::Abort;
 use std::test::Fail;
 
 /// An order of 300 shares at 23.45 that is executed whole, and one of 100 at 10 that stays open.
@@ -43,13 +44,11 @@ const SO_FAR: [(usize, &str); 3] = [
 
 /// The day of a script is audited as the script is; so far, too. A script that stops is no day: nothing is written, and
 /// its line is told.
-#[test]
-fn days_of_scripts(rt: HostRuntime) -> Result<(), Fail> {
-    let alloc = rt.alloc();
+pub fn days_of_scripts<R: Abort>(rt: &R, alloc: Global) -> Result<(), Fail> {
     let day = filed(alloc, SCRIPT);
     let file = day.output.as_slice();
     assert_ran(
-        &rt,
+        rt,
         &audited_file(alloc, file)?,
         AUDIT,
         "",
@@ -58,11 +57,11 @@ fn days_of_scripts(rt: HostRuntime) -> Result<(), Fail> {
     );
     for (cut, told) in &SO_FAR {
         let front = front_of(file, file.len().saturating_sub(*cut));
-        assert_ran(&rt, &audited_so_far(alloc, front)?, AUDIT, told, 0, told);
+        assert_ran(rt, &audited_so_far(alloc, front)?, AUDIT, told, 0, told);
     }
     let run = filed(alloc, b"C1 tick\nC9 tick\n");
     assert_ran(
-        &rt,
+        rt,
         &run,
         "",
         "line 2: not understood\n",

@@ -48,14 +48,14 @@ pub fn audited_so_far(alloc: Global, file: &[u8]) -> Result<Run, Fail> {
     })
 }
 
-/// The bytes are this text, in what comes of this.
-pub fn is_text(rt: &impl Abort, bytes: &[u8], text: &str, of: &str) {
-    assert!(rt; bytes == text.as_bytes(), "{of}");
+/// This is so, of what is named. It has the one assertion of these tests.
+pub fn holds<R: Abort>(rt: &R, is_so: bool, of: &str) {
+    assert!(rt; is_so, "{of}");
 }
 
 /// A run of this printed this, told this, and ended with this status.
-pub fn assert_ran(rt: &impl Abort, run: &Run, output: &str, faults: &str, status: u8, of: &str) {
-    is_text(rt, run.output.as_slice(), output, of);
-    is_text(rt, run.faults.as_slice(), faults, of);
-    assert!(rt; run.status == status, "{of}");
+pub fn assert_ran<R: Abort>(rt: &R, run: &Run, output: &str, faults: &str, status: u8, of: &str) {
+    holds(rt, run.output.as_slice() == output.as_bytes(), of);
+    holds(rt, run.faults.as_slice() == faults.as_bytes(), of);
+    holds(rt, run.status == status, of);
 }

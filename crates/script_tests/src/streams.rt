@@ -1,6 +1,6 @@
 //! Readers and writers that fail.
 
-use super::running::{PLAIN, Run};
+use super::running::{PLAIN, Run, holds};
 use gate_lines::run_script;
 use std::alloc::{AllocError, Global};
 use std::io::{self, ErrorKind, Read, Write};
@@ -147,15 +147,16 @@ const LAST_LINES: [(&[u8], u8, &[u8]); 2] = [
 ];
 
 /// All that such a script prints is given on, though the writer holds it back.
-fn holds_back(rt: &impl Abort, alloc: Global, script: &[u8], status: u8, told: &[u8]) {
+fn holds_back<R: Abort>(rt: &R, alloc: Global, script: &[u8], status: u8, told: &[u8]) {
     let mut output = Holding::new(alloc);
     let mut faults = Vec::new(alloc);
     let mut input = script;
     let ended = run_script(alloc, PLAIN, &mut input, &mut output, &mut faults);
-    assert!(rt; is_both(output.given.as_slice()));
-    assert!(rt; output.held.is_empty());
-    assert!(rt; faults.as_slice() == told);
-    assert!(rt; ended == status);
+    let of = "a writer that holds back";
+    holds(rt, is_both(output.given.as_slice()), of);
+    holds(rt, output.held.is_empty(), of);
+    holds(rt, faults.as_slice() == told, of);
+    holds(rt, ended == status, of);
 }
 
 /// The script behind 3,000 empty lines: more than 1,000 reads.
@@ -166,29 +167,30 @@ fn long_script(alloc: Global) -> Result<Vec<u8>, AllocError> {
 }
 
 /// A writer that holds back and takes one byte a write; a reader that gives one byte a read.
-#[test]
-fn streams_of_one_byte_at_a_time(rt: HostRuntime) -> Result<(), Fail> {
+pub fn streams_of_one_byte_at_a_time<R: Abort>(rt: &R, alloc: Global) -> Result<(), Fail> {
     for (last, status, told) in &LAST_LINES {
-        let mut script = Vec::from_slice(rt.alloc(), SCRIPT)?;
+        let mut script = Vec::from_slice(alloc, SCRIPT)?;
         script.extend_from_slice(last)?;
-        holds_back(&rt, rt.alloc(), script.as_slice(), *status, told);
+        holds_back(rt, alloc, script.as_slice(), *status, told);
     }
-    let script = long_script(rt.alloc())?;
-    let run = run_torn(rt.alloc(), script.as_slice(), false, None);
-    assert!(rt; is_both(run.output.as_slice()));
-    assert!(rt; run.faults.is_empty());
-    assert!(rt; run.status == 0);
+    let script = long_script(alloc)?;
+    let run = run_torn(alloc, script.as_slice(), false, None);
+    let of = "a reader of one byte a read";
+    holds(rt, is_both(run.output.as_slice()), of);
+    holds(rt, run.faults.is_empty(), of);
+    holds(rt, run.status == 0, of);
     Ok(())
 }
 
 /// A read or a write failed, and that was told.
-fn has_failed(rt: &impl Abort, faults: &[u8], status: u8) {
-    assert!(rt; faults == b"read or write failed\n".as_slice());
-    assert!(rt; status == 1);
+fn has_failed<R: Abort>(rt: &R, faults: &[u8], status: u8) {
+    let of = "what is told of a stream that fails";
+    holds(rt, faults == b"read or write failed\n".as_slice(), of);
+    holds(rt, status == 1, of);
 }
 
 /// What a writer takes that fails after so many writes, or when it is flushed.
-fn taken(rt: &impl Abort, alloc: Global, writes_left: usize, flushes: bool) -> Vec<u8> {
+fn taken<R: Abort>(rt: &R, alloc: Global, writes_left: usize, flushes: bool) -> Vec<u8> {
     let mut output = Failing {
         taken: Vec::new(alloc),
         writes_left,
@@ -202,17 +204,29 @@ fn taken(rt: &impl Abort, alloc: Global, writes_left: usize, flushes: bool) -> V
 }
 
 /// A reader that fails in mid-stream, a writer that fails, and a fault that can't be told.
-#[test]
-fn streams_that_fail(rt: HostRuntime) {
+pub fn streams_that_fail<R: Abort>(rt: &R, alloc: Global) {
     for kind in [ErrorKind::Other, ErrorKind::OutOfMemory] {
-        let run = run_torn(rt.alloc(), &SCRIPT[..70], true, Some(kind));
-        assert!(rt; run.output.as_slice() == ORDER_OUTPUT);
-        has_failed(&rt, run.faults.as_slice(), run.status);
+        let run = run_torn(alloc, &SCRIPT[..70], true, Some(kind));
+        holds(
+            rt,
+            run.output.as_slice() == ORDER_OUTPUT,
+            "a read that fails",
+        );
+        has_failed(rt, run.faults.as_slice(), run.status);
     }
-    assert!(rt; taken(&rt, rt.alloc(), 0, true).is_empty());
-    assert!(rt; taken(&rt, rt.alloc(), 1, true).as_slice() == ORDER_OUTPUT);
-    assert!(rt; is_both(taken(&rt, rt.alloc(), 9, false).as_slice()));
-    assert!(rt; untold(rt.alloc()) == 2);
+    holds(
+        rt,
+        taken(rt, alloc, 0, true).is_empty(),
+        "the first write fails",
+    );
+    let of = "the second write fails";
+    holds(rt, taken(rt, alloc, 1, true).as_slice() == ORDER_OUTPUT, of);
+    holds(
+        rt,
+        is_both(taken(rt, alloc, 9, false).as_slice()),
+        "a flush fails",
+    );
+    holds(rt, untold(alloc) == 2, "a fault that can't be told");
 }
 
 /// The status of a script that isn't understood, where that can't be told.
