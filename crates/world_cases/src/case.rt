@@ -8,6 +8,7 @@ use crate::sums::Sums;
 use audit_lines::audit_text;
 use batch_lines::{Flags, batch_text};
 use closed_world::{Choice, ClientNumber, Event, PortNumber, WorldStep};
+use gate_events::Batch;
 use random_world::{Played, Settings, frame_of, world_settings};
 use soup_packets::{Packet, Payload};
 use std::alloc::Global;
@@ -179,27 +180,32 @@ impl Case {
     /// Plays the case with all that is on its way delivered in the end, without a loss and with one behind each of its
     /// deliveries in turn, and prints what came of them together, and then of the one without a loss.
     pub fn end_crossed<W: Write>(&mut self, alloc: Global, output: &mut W) -> io::Result<()> {
+        self.deliver_all()?;
         let settings = case_settings(alloc)?;
         let mut sums = Sums::none();
-        self.deliver_all()?;
         let played = judge(alloc, self.as_played(&settings), &mut sums, output)?;
-        self.cross(alloc, &settings, &mut sums, output)?;
-        self.tell(alloc, &sums, &played, output)
+        self.tell_crossed(alloc, &settings, &mut sums, &played, output)
+    }
+
+    /// Plays the case with each loss, and prints what came of all, and of the play without a loss.
+    fn tell_crossed<W: Write>(
+        &mut self,
+        alloc: Global,
+        settings: &Settings,
+        sums: &mut Sums,
+        played: &Played,
+        output: &mut W,
+    ) -> io::Result<()> {
+        self.cross(alloc, settings, sums, output)?;
+        self.tell(alloc, sums, played, output)
     }
 
     /// Plays the case, and prints what links are told, batch by batch.
     pub fn tell_links<W: Write>(&self, alloc: Global, output: &mut W) -> io::Result<()> {
         let settings = case_settings(alloc)?;
         let played = played_of(alloc, self.as_played(&settings))?;
-        let flags = Flags {
-            num: false,
-            raw: false,
-            cold: false,
-        };
-        for batch in &played.history.batches(alloc)? {
-            output.write_all(batch_text(alloc, flags, batch)?.as_slice())?;
-        }
-        Ok(())
+        let batches = played.history.batches(alloc)?;
+        print_batches(alloc, batches.as_slice(), output)
     }
 
     /// The steps so far, to be played.
@@ -282,6 +288,19 @@ impl Case {
             let _step = self.steps.remove(place + 1);
         }
     }
+}
+
+/// Prints what links are told, batch by batch.
+fn print_batches<W: Write>(alloc: Global, batches: &[Batch], output: &mut W) -> io::Result<()> {
+    let flags = Flags {
+        num: false,
+        raw: false,
+        cold: false,
+    };
+    for batch in batches {
+        output.write_all(batch_text(alloc, flags, batch)?.as_slice())?;
+    }
+    Ok(())
 }
 
 /// The settings of each case.

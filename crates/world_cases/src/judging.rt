@@ -24,14 +24,25 @@ pub fn judge<W: Write>(
     output: &mut W,
 ) -> io::Result<Played> {
     let played = played_of(alloc, named)?;
-    let counts = counts_of(alloc, named.counted, &played)?;
+    judge_played(alloc, named, &played, sums, output)?;
+    Ok(played)
+}
+
+/// The same of what came of them.
+fn judge_played<W: Write>(
+    alloc: Global,
+    named: Named<'_>,
+    played: &Played,
+    sums: &mut Sums,
+    output: &mut W,
+) -> io::Result<()> {
+    let counts = counts_of(alloc, named.counted, played)?;
     if !counts.is_right() {
         output.write_all(named.name)?;
         writeln!(output, ": {counts}")?;
     }
     sums.add(&counts);
-    judge_orders(alloc, named.name, &played, sums, output)?;
-    Ok(played)
+    judge_orders(alloc, named.name, played, sums, output)
 }
 
 /// What comes of steps.

@@ -36,12 +36,34 @@ pub fn judge_orders<W: Write>(
 ) -> io::Result<()> {
     let events = played.history.events(alloc)?;
     let batches = played.history.batches(alloc)?;
+    let orders = heard(alloc, events.as_slice(), batches.as_slice(), sums)?;
+    judge_all(name, orders.as_slice(), played, sums, output)
+}
+
+/// The orders that events with their batches tell of.
+fn heard(
+    alloc: Global,
+    events: &[Event],
+    batches: &[Batch],
+    sums: &mut Sums,
+) -> io::Result<Vec<Order>> {
     let mut orders = Vec::new(alloc);
-    for (event, batch) in events.iter().zip(batches.as_slice()) {
+    for (event, batch) in events.iter().zip(batches) {
         hear(alloc, event, batch, &mut orders, sums)?;
     }
+    Ok(orders)
+}
+
+/// Judges each of the orders that a play has a book of.
+fn judge_all<W: Write>(
+    name: &[u8],
+    orders: &[Order],
+    played: &Played,
+    sums: &mut Sums,
+    output: &mut W,
+) -> io::Result<()> {
     for (pair, book) in played.pairs.iter().zip(played.books.as_slice()) {
-        for order in &orders {
+        for order in orders {
             if order.client == pair.client && order.id.as_slice() == pair.id.as_slice() {
                 judge_order(name, order, book, sums, output)?;
             }
