@@ -4,6 +4,7 @@ use crate::asking::{Question, answer, is_kept, question_of};
 use crate::changing::{Change, changed_all};
 use crate::reading::{Reader, outcome};
 use crate::records::{record_said, ticks_said};
+use crate::resending::is_resend_whole;
 use crate::tally::Outcome;
 use crate::words::{bytes_said, fault_named, first_number, first_word};
 use std::alloc::{AllocError, Global};
@@ -44,6 +45,9 @@ impl Cases {
         }
         if word == "kept" {
             return self.compare(alloc, rest, output);
+        }
+        if word == "resend" {
+            return self.tell(is_resend_whole(alloc)?, output);
         }
         if self.write(alloc, word, rest)? {
             return Ok(());

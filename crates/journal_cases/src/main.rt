@@ -7,6 +7,7 @@ mod cases;
 mod changing;
 mod reading;
 mod records;
+mod resending;
 mod tally;
 mod words;
 
