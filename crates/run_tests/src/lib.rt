@@ -2,6 +2,8 @@
 #![tactic(auto)]
 
 #[cfg(test)]
+mod lost_lines;
+#[cfg(test)]
 mod lost_links;
 #[cfg(test)]
 mod many;
