@@ -4,6 +4,8 @@
 #[cfg(test)]
 mod days;
 #[cfg(test)]
+mod lost_lines;
+#[cfg(test)]
 mod lost_links;
 #[cfg(test)]
 mod many;

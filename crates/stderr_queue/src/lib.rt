@@ -7,11 +7,10 @@ mod handle;
 mod line;
 mod queue;
 mod sender;
-#[cfg(test)]
-mod tests;
 mod writer;
 
 pub use handle::Queued;
 pub use line::Line;
 pub use queue::LineQueue;
+pub use sender::LineSender;
 pub use writer::start_writer;

@@ -9,7 +9,7 @@ use rtrb::Producer;
 /// The queue's end for those who tell. Its type keeps that each line that was told went into the queue or is counted as
 /// dropped.
 #[derive(Drop)]
-pub(crate) struct LineSender {
+pub struct LineSender {
     ring: Producer<Line>,
     told: u64,
     dropped: u64,
@@ -20,7 +20,7 @@ impl LineSender {
     ghost use Rattle.stderr_queue.specs.Sent.{WasSent};
 
     /// Over a queue of which nothing was sent. Takes no memory.
-    pub(crate) fn new(ring: Producer<Line>) -> LineSender
+    pub fn new(ring: Producer<Line>) -> LineSender
         requires fresh { sent ring ≡ [] }
         ensures ring { result.ring ≡ ring }
         ensures none { (result.told ≡ 0) × (result.dropped ≡ 0) }
@@ -34,7 +34,7 @@ impl LineSender {
 
     /// Sends a line, with how many were dropped before it, where there is room; else it is counted as dropped. It waits
     /// for nobody. After 2^64 lines nothing is told any more.
-    pub(crate) fn send(&mut self, line: Line)
+    pub fn send(&mut self, line: Line)
         ensures { WasSent self.old self.new line }
     {
         let Some(told) = self.told.checked_add(1) else {
@@ -48,7 +48,7 @@ impl LineSender {
     }
 
     /// How many lines were dropped.
-    pub(crate) fn dropped(&self) -> u64
+    pub fn dropped(&self) -> u64
         ensures { result ≡ self.now.dropped }
     {
         self.dropped

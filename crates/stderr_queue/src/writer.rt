@@ -27,12 +27,22 @@ where
 {
     let (ring, lines) = RingBuffer::new(alloc, ROOM)?;
     let queue = Arc::new(alloc, LineQueue::new(ring))?;
-    let theirs = Arc::try_clone(&queue)?;
-    let own = *rt;
-    match thread::spawn(rt, move || write_lines(&own, lines, &theirs)) {
-        Ok(_) => Ok(Some(queue)),
-        Err(_) => Ok(None),
+    if is_started(rt, lines, &queue)? {
+        Ok(Some(queue))
+    } else {
+        Ok(None)
     }
+}
+
+/// Starts the thread that writes the lines of a queue; `false` where it can't be had.
+fn is_started<R>(rt: &R, lines: Consumer<Line>, queue: &Arc<LineQueue>) -> Result<bool, AllocError>
+where
+    R: Threads + Wait + Clock + Eprint + Copy + Send + Drop + 'static,
+{
+    let theirs = Arc::try_clone(queue)?;
+    let own = *rt;
+    let thread = thread::spawn(rt, move || write_lines(&own, lines, &theirs));
+    Ok(thread.is_ok())
 }
 
 /// Writes the lines of a queue until it is ended and nothing is left.
