@@ -33,10 +33,42 @@ fn look() -> Duration {
 pub struct SocketReader<'a> {
     stream: TcpStream,
     is_over: &'a AtomicBool,
+    /// How the wait for bytes failed: a socket tells its failure once.
+    failed: Option<ErrorKind>,
+}
+
+impl<'a> SocketReader<'a> {
+    /// Waits until there is something to read: bytes, the stream's end, or its failure.
+    fn wait(&mut self) {
+        let mut first = [0u8; 1];
+        for _ in 0..u64::MAX {
+            match self.stream.peek(&mut first) {
+                Ok(_) => return,
+                Err(error) => match error.kind() {
+                    ErrorKind::WouldBlock | ErrorKind::TimedOut | ErrorKind::Interrupted => {}
+                    kind => {
+                        self.failed = Some(kind);
+                        return;
+                    }
+                },
+            }
+            if self.is_over.load(Ordering::SeqCst) {
+                return;
+            }
+        }
+    }
 }
 
 impl<'a> Read for SocketReader<'a> {
+    /// A read into no place waits until there is something to read.
     fn read(&mut self, buf: &mut [u8]) -> io::Result<usize> {
+        if buf.is_empty() {
+            self.wait();
+            return Ok(0);
+        }
+        if let Some(kind) = self.failed {
+            return Err(io::Error::from(kind));
+        }
         for _ in 0..u64::MAX {
             match self.stream.read(buf) {
                 Ok(n) => return Ok(n),
@@ -121,7 +153,11 @@ pub fn link_of<'a, R>(
     let written = stream.try_clone()?;
     let closed = stream.try_clone()?;
     Ok(Opened {
-        reader: SocketReader { stream, is_over },
+        reader: SocketReader {
+            stream,
+            is_over,
+            failed: None,
+        },
         writer: SocketWriter { stream: written },
         closer: SocketCloser { rt, stream: closed },
     })

@@ -4,15 +4,16 @@ use Rattle.link_io.specs.declared.link_fault.LinkFault.{LinkFault}
 use Rattle.link_io.specs.declared.progress.Progress.{Progress}
 use Rattle.gate_workers.specs.ReadersWork.{HasReadAll}
 use Rattle.gate_workers.proofs.Run.{limit-goes_on, memory-goes_on, not_over-memory, ok-goes_on, over-not_memory}
-use Rattle.gate_workers.proofs.Run.{read_fault, read_none, read_step, read_to_end}
+use Rattle.gate_workers.proofs.Run.{read_awaited, read_fault, read_none, read_step, read_to_end}
 use Rattle.gate_workers.proofs.reader.read_all.Goals as goal
 
 pub loop-init : goal.loop-init
 loop-init g c = record {
   can_next = tt;
   is_finite = tt;
-  reads = read_none g.D.Decoder.made g.D.Decoder.are_all c.args.reader.now (g.G.Gate.was_put c.args.gate.now)
-      (g.S.Read.remaining c.args.stream.now);
+  reads = read_awaited g.D.Decoder.made g.D.Decoder.are_all _ _ _ _ _ _ _
+      (read_none g.D.Decoder.made g.D.Decoder.are_all c.args.reader.now (g.G.Gate.was_put c.args.gate.now)
+      (g.S.Read.remaining c.args.stream.now)) c.await_bytes.ensures.same;
   goes_on = c.requires.goes_on;
   source = refl;
   none_taken = refl;
@@ -25,9 +26,10 @@ loop-preserved-in-Read g c =
     record {
       can_next = tt;
       is_finite = tt;
-      reads = read_step g.D.Decoder.made g.D.Decoder.are_all c.now_ms-at.result
+      reads = read_awaited g.D.Decoder.made g.D.Decoder.are_all _ _ _ _ _ _ _
+          (read_step g.D.Decoder.made g.D.Decoder.are_all c.now_ms-at.result
           (Ok c.in-Ok.progress) c.args.reader.now c.loop.reader c.step-done.new.self _ _ _ _ _ _ _
-          c.loop.invariant.reads c.in-Ok.ensures.reads on c.turn.ensures.none_put;
+          c.loop.invariant.reads c.in-Ok.ensures.reads on c.turn.ensures.none_put) c.await_bytes-in-Read.ensures.same;
       goes_on = limit-goes_on {A = Progress} c.loop.reader.limit c.step-done.new.self.limit
           (Ok c.in-Ok.progress) refl on c.in-Ok.ensures.limit;
       source = c.step-done.ensures.source ∙ c.loop.invariant.source;
