@@ -229,21 +229,21 @@ module _ {D : Type 0} (made : D → List ℕ → List law.Event → Type 0) (are
       → ReadsLink made are_all IsOf up gone answer x w s q l m
   whole_link IsOf up gone answer began ended a x y z w s t u v p q l m fresh none first up_put silent h last
       gone_put silent_too = record {
-    read = h.read;
-    events = h.put;
-    began = began;
-    moments = h.moments;
-    ended = ended;
-    puts = gone_put ∙ ap (λ (v : List law.Event). v ++ gone ended ∷ [])
-        (h.puts ∙ (ap (λ (v : List law.Event). v ++ h.put) up_put ∙ append_assoc x (up began ∷ []) h.put));
-    tells = subst (λ (o : Option (List ℕ)). Tells s o (began ∷ h.moments ++ ended ∷ [])) (sym silent_too)
-        (Appends-trans s t p (began ∷ []) (h.moments ++ ended ∷ []) first
-        (Appends-trans t v p h.moments (ended ∷ [])
-        (subst (λ (o : Option (List ℕ)). Tells o v h.moments) silent h.tells) last));
-    as_told = put_as_told h.moments a.offered h.reading.offered h.put none h.as_told;
-    consumes = h.consumes;
-    reading = h.reading;
-    is_of = h.is_of;
-    gave = h.goes [] [] fresh;
-    ends = h.ends [] [] fresh;
-  }
+        read = h.read;
+        events = h.put;
+        began = began;
+        moments = h.moments;
+        ended = ended;
+        puts = gone_put ∙ ap (λ (v : List law.Event). v ++ gone ended ∷ [])
+            (h.puts ∙ (ap (λ (v : List law.Event). v ++ h.put) up_put ∙ append_assoc x (up began ∷ []) h.put));
+        tells = subst (λ (o : Option (List ℕ)). Tells s o (began ∷ h.moments ++ ended ∷ [])) (sym silent_too)
+            (Appends-trans s t p (began ∷ []) (h.moments ++ ended ∷ []) first
+            (Appends-trans t v p h.moments (ended ∷ [])
+            (subst (λ (o : Option (List ℕ)). Tells o v h.moments) silent h.tells) last));
+        as_told = put_as_told h.moments a.offered h.reading.offered h.put none h.as_told;
+        consumes = h.consumes;
+        reading = h.reading;
+        is_of = h.is_of;
+        gave = h.goes [] [] fresh;
+        ends = h.ends [] [] fresh;
+      }

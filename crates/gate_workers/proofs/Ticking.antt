@@ -1,6 +1,6 @@
 -- Ticks that are put one after another.
 use Rattle.std.proofs.Common.{◌≡◌, ⊎_elim, ℕ, suc, ◌+◌, ◌++◌, List, [], ◌∷◌, Option, Result, Ok, Err, refl, sym, ap}
-use Rattle.std.proofs.Common.{◌∙◌, subst, append_assoc, append-nil, arith}
+use Rattle.std.proofs.Common.{◌∙◌, subst, append_assoc, append-nil, arith, inl, inr}
 use Rattle.std.specs.Prelude.{IfErr, OnOk}
 use Rattle.std.proofs.KnownBytes.{Appends-nil, Appends-trans}
 use Rattle.link_io.specs.Events.{Event, ClientTick, PortTick}
@@ -31,6 +31,14 @@ module _ (gave_back : Event → Type 0) where
     unless_both events more put also unless unless_too,
   )
 
+  pub clients_none : (at : ℕ) (x : List Event) → PutsBehind gave_back (client_ticks at 0) x x
+  unfolding client_ticks
+  clients_none at x = behind_none x
+
+  pub ports_none : (at : ℕ) (x : List Event) → PutsBehind gave_back (port_ticks at 0) x x
+  unfolding port_ticks
+  ports_none at x = behind_none x
+
   -- an event that was put, or given back
   pub behind_offer : {E : Type 0} (event : Event) (r : Result Unit E) (back : E → Type 0) (x y z : List Event)
       → OnOk r (y ≡ x ++ event ∷ []) → IfErr r (λ e. back e × (y ≡ x)) → IfErr r (λ e. gave_back event) → z ≡ y
@@ -43,6 +51,7 @@ module _ (gave_back : Event → Type 0) where
   pub client_more : (at i next number : ℕ) (x y z : List Event) → next ≡ i + 1 → number ≡ i + 1
       → PutsBehind gave_back (client_ticks at i) x y → PutsBehind gave_back (ClientTick number at ∷ []) y z
       → PutsBehind gave_back (client_ticks at next) x z
+  unfolding client_ticks
   client_more at i next number x y z is numbered before one =
       let after : next ≡ suc i = omega (arith, is) in
       let same : number ≡ suc i = omega (arith, numbered) in
@@ -53,6 +62,7 @@ module _ (gave_back : Event → Type 0) where
   pub port_more : (at i next number : ℕ) (x y z : List Event) → next ≡ i + 1 → number ≡ i + 1
       → PutsBehind gave_back (port_ticks at i) x y → PutsBehind gave_back (PortTick number at ∷ []) y z
       → PutsBehind gave_back (port_ticks at next) x z
+  unfolding port_ticks
   port_more at i next number x y z is numbered before one =
       let after : next ≡ suc i = omega (arith, is) in
       let same : number ≡ suc i = omega (arith, numbered) in
@@ -63,6 +73,7 @@ module _ (gave_back : Event → Type 0) where
   -- a round more
   rounds_more : (clients ports : ℕ) (moments : List ℕ) (at : ℕ) → rounds clients ports (moments ++ at ∷ [])
       ≡ rounds clients ports moments ++ (client_ticks at clients ++ port_ticks at ports)
+  unfolding rounds
   rounds_more clients ports [] at = append-nil (client_ticks at clients ++ port_ticks at ports)
   rounds_more clients ports (m ∷ moments) at =
       ap (λ (es : List Event). (client_ticks m clients ++ port_ticks m ports) ++ es)
@@ -72,6 +83,7 @@ module _ (gave_back : Event → Type 0) where
 
   pub ticks_none : (clients ports : ℕ) (t : Option (List ℕ)) (x : List Event)
       → PutsTicks gave_back clients ports t t x x
+  unfolding rounds
   ticks_none clients ports t x = ([], Appends-nil t, behind_none x)
 
   pub ticks_more : (clients ports at : ℕ) (t u v p : Option (List ℕ)) (w x y z : List Event)

@@ -4,17 +4,17 @@ use Rattle.link_io.specs.Events.{Event, ClientTick, PortTick}
 use Rattle.gate_workers.specs.Moments.{Tells}
 
 -- a tick at this moment for each of so many clients, numbered from 1
-pub client_ticks : (at clients : ℕ) → List Event
-client_ticks at zero = []
+unfoldable pub client_ticks : (at clients : ℕ) → List Event
+client_ticks at ℕ.zero = []
 client_ticks at (suc n) = client_ticks at n ++ ClientTick (suc n) at ∷ []
 
 -- and for each of so many ports
-pub port_ticks : (at ports : ℕ) → List Event
-port_ticks at zero = []
+unfoldable pub port_ticks : (at ports : ℕ) → List Event
+port_ticks at ℕ.zero = []
 port_ticks at (suc n) = port_ticks at n ++ PortTick (suc n) at ∷ []
 
 -- a round of ticks for each moment, in order: first the clients', then the ports'
-pub rounds : (clients ports : ℕ) → (moments : List ℕ) → List Event
+unfoldable pub rounds : (clients ports : ℕ) → (moments : List ℕ) → List Event
 rounds clients ports [] = []
 rounds clients ports (at ∷ later) = (client_ticks at clients ++ port_ticks at ports) ++ rounds clients ports later
 

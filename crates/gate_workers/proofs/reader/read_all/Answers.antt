@@ -96,7 +96,7 @@ loop-preserved g c =
       reads = read_step g.D.Decoder.made g.D.Decoder.are_all c.now_ms-at.result
           (Err c.in-Err.fault) c.args.reader.now c.loop.reader c.step-done.new.self _ _ _ _ _ _ _ _
           _ _ _ c.loop.invariant.reads c.now_ms-at.ensures.tells c.in-Err.ensures.reads on c.turn.ensures.none_put
-          c.pause.ensures.silent;
+          c.pause-in-Err.ensures.silent;
       goes_on = limit-goes_on {A = Progress} c.loop.reader.limit c.step-done.new.self.limit (Err c.in-Err.fault)
           (rw memory refl) on c.in-Err.ensures.limit;
       source = c.step-done.ensures.source ∙ c.loop.invariant.source;

@@ -1,10 +1,10 @@
 use Rattle.std.proofs.Common.{◌∙◌, ◌+◌, refl}
-use Rattle.gate_workers.proofs.Ticking.{behind_none, port_more}
+use Rattle.gate_workers.proofs.Ticking.{port_more, ports_none}
 use Rattle.gate_workers.proofs.ticks.tick_ports.Goals as goal
 
 pub loop-i-init : goal.loop-i-init
 loop-i-init g c = record {
-  puts = behind_none g.G.Gate.gave_back (g.G.Gate.was_put c.args.gate.now);
+  puts = ports_none g.G.Gate.gave_back c.args.at (g.G.Gate.was_put c.args.gate.now);
   none_taken = refl;
 }
 
