@@ -41,19 +41,19 @@ fault_of (Err fault) = Some fault
 fault_of (Ok end) = end_fault end.reader end.writer
 
 -- the first fault of all tries, the last of which comes first here, and of before
-pub line_fault : (before : Option LinkFault) → (tries : List (Result LinkEnd LinkFault)) → Option LinkFault
+abbrev pub line_fault : (before : Option LinkFault) → (tries : List (Result LinkEnd LinkFault)) → Option LinkFault
 line_fault before [] = before
 line_fault before (last ∷ tries) = first_fault (line_fault before tries) (fault_of last)
 
 -- how many links were opened
-pub count_opened : List (Result LinkEnd LinkFault) → ℕ
+abbrev pub count_opened : List (Result LinkEnd LinkFault) → ℕ
 count_opened [] = 0
 count_opened (Ok end ∷ tries) = count_opened tries + 1
 count_opened (Err fault ∷ tries) = count_opened tries
 
 -- Links of a line that were read one after the other, numbered from 1 as they were opened, by what became of each try,
 -- the last one first: what was put of each, in order, and nothing else.
-pub LinksRead : (ℕ → Result Unit LinkFault → ReaderLog → ReaderLog → Option (List ℕ) → Option (List ℕ) → Type 0)
+abbrev pub LinksRead : (ℕ → Result Unit LinkFault → ReaderLog → ReaderLog → Option (List ℕ) → Option (List ℕ) → Type 0)
     → (tries : List (Result LinkEnd LinkFault)) → (old new : ReaderLog) → Type 0
 LinksRead reads [] old new = new ≡ old
 LinksRead reads (Err fault ∷ tries) old new = LinksRead reads tries old new

@@ -1,4 +1,4 @@
-use Rattle.std.proofs.Common.{◌≡◌, ◌∙◌, arith, ap, subst, ◌+◌}
+use Rattle.std.proofs.Common.{◌≡◌, ◌∙◌, arith, ap, refl, subst, ◌+◌}
 use Rattle.gate_events.specs.declared.source.Recipient.{Recipient}
 use Rattle.gate_workers.specs.WritersWork.{OfAStream}
 use Rattle.gate_serving.specs.Lines.{log_of, reads_of}
@@ -13,7 +13,7 @@ loop-preserved g c = elim c.match-tried.branch [
       record {
         so_far = rw (w.link-is, w.self-is) (as_many
             (reads_of c.args.self.now.peer) c.loop.link _ _ _ _ _ _ w.in-Err.found _ _ c.loop.invariant.so_far same
-            w.first_of.ensures);
+            w.first_of-self.ensures);
         few = omega (arith, w.link-is, c.loop.invariant.few);
         none_taken = rw w.self-is c.loop.invariant.none_taken;
         peer = rw w.self-is c.loop.invariant.peer;
@@ -30,7 +30,7 @@ loop-preserved g c = elim c.match-tried.branch [
         so_far = rw (w.link-is, w.self-is) (one_more
             (reads_of c.args.self.now.peer) c.loop.link _ _ _ _ _ _ w.in-Some-read.end _ _ _ c.loop.invariant.so_far
             (w.ended.ensures.same ∙ (ap g.O.Opener.opened same.2 ∙ more)) w.in-Some-read.ensures.number
-            (w.first_of.ensures ∙ ap2 first_fault same.3 w.fault.ensures) some);
+            (w.first_of-self-in-Ok.ensures ∙ rw (same.3, w.fault.ensures) refl) some);
         few = omega (arith, w.link-is, c.loop.invariant.few);
         none_taken = rw w.self-is (w.read_link-read.ensures.none_taken ∙ c.loop.invariant.none_taken);
         peer = rw w.self-is (same.0 ∙ c.loop.invariant.peer);
