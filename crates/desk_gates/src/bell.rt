@@ -36,6 +36,10 @@ impl<'a, K: DeskName, R: Wait + time::Clock, S: BuildHasher + Drop> BellClock<'a
 
 impl<'a, K: DeskName, R: Wait + time::Clock, S: BuildHasher + Drop> Clock
     for BellClock<'a, K, R, S> {
+    ghost use Rattle.std.specs.Prelude.{None};
+
+    ghost told = { λ _. None };
+
     /// The system's moment; the last one given if the system's is earlier or can't be read.
     fn now_ms(&mut self) -> u64 {
         if let Ok(since) = self.rt.since_1970() {

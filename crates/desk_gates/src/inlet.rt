@@ -80,6 +80,8 @@ impl<'p, 'a, W: Prompt + Drop, G: OutletEnd + Drop, K: DeskName, S: BuildHasher 
 
     ghost was_taken = { λ g. [] };
 
+    ghost gave_back = { λ _. Unit {0} };
+
     /// Puts an event of its inlet's source. One of another source is given back, always.
     fn put(&mut self, event: Event) -> Result<(), Event> {
         if !event.is_from(&self.inlet.source()) {

@@ -68,6 +68,8 @@ impl<'a, K: DeskName, S: BuildHasher + Drop> Gate for OutletGate<'a, K, S> {
 
     ghost was_taken = { λ g. took_since g.first.value g.outlet };
 
+    ghost gave_back = { λ _. Unit {0} };
+
     /// An outlet takes no event: it is always given back.
     fn put(&mut self, event: Event) -> Result<(), Event> {
         Err(event)

@@ -2,7 +2,8 @@
 
 ghost use Rattle.std.specs.Prelude.{◌≡◌, ◌≤◌, ◌<◌, true, IfNone, IfSome};
 ghost use Rattle.gate_serving.specs.Halves.{ReadsDid, WritesDid};
-ghost use Rattle.gate_serving.specs.Lines.{LineRead, LineWrittenBy, reads_of};
+ghost use Rattle.gate_serving.specs.Faults.{first_fault};
+ghost use Rattle.gate_serving.specs.Lines.{LineRead, LineWrittenBy, log_of, reads_of};
 ghost use Rattle.gate_workers.specs.Pens.{HasEnded};
 ghost use Rattle.gate_workers.specs.WritersWork.{OfAStream};
 
@@ -50,7 +51,7 @@ where
     W: Drop,
     K: Drop,
 {
-    ghost did = { ReadsDid O.has_ended O.opened G.was_put G.was_taken };
+    ghost did = { ReadsDid O.has_ended O.opened (log_of G.was_put C.told) G.was_taken };
 
     /// Opens and reads the line's links; then tells the writer that no further one comes.
     fn run<R: Wait>(self, rt: &R, alloc: Global, flag: &AtomicBool) -> Self {
@@ -76,8 +77,8 @@ where
     /// no writer. Each link's writer has ended before the next is opened.
     fn read_links<R: Wait>(&mut self, rt: &R, alloc: Global, flag: &AtomicBool) -> bool
         ensures read { LineRead (reads_of self.old.peer) result (O.has_ended self.new.opener)
-            (O.opened self.old.opener) (O.opened self.new.opener)
-            (G.was_put self.old.worker.gate) (G.was_put self.new.worker.gate) }
+            (O.opened self.old.opener) (O.opened self.new.opener) self.old.fault self.new.fault
+            (log_of G.was_put C.told self.old.worker) (log_of G.was_put C.told self.new.worker) }
         ensures none_taken { G.was_taken self.new.worker.gate ≡ G.was_taken self.old.worker.gate }
         ensures same { (self.new.peer ≡ self.old.peer) × (self.new.steps ≡ self.old.steps) }
     {
@@ -116,12 +117,13 @@ where
         opened: Opened<O::Reader, W, K>,
     ) -> Option<LinkEnd>
         ensures some { IfSome result (λ end. OfAStream (reads_of self.old.peer link end.reader
-            (G.was_put self.old.worker.gate) (G.was_put self.new.worker.gate))) }
+            (log_of G.was_put C.told self.old.worker) (log_of G.was_put C.told self.new.worker))) }
         ensures number { IfSome result (λ end. end.link ≡ link) }
-        ensures none { IfNone result (G.was_put self.new.worker.gate ≡ G.was_put self.old.worker.gate) }
+        ensures none { IfNone result (log_of G.was_put C.told self.new.worker
+            ≡ log_of G.was_put C.told self.old.worker) }
         ensures none_taken { G.was_taken self.new.worker.gate ≡ G.was_taken self.old.worker.gate }
         ensures same { (self.new.peer ≡ self.old.peer) × (self.new.steps ≡ self.old.steps)
-            × (self.new.opener ≡ self.old.opener) }
+            × (self.new.opener ≡ self.old.opener) × (self.new.fault ≡ self.old.fault) }
     {
         let Opened {
             reader: mut stream,
@@ -235,7 +237,9 @@ where
 }
 
 /// The first fault of the two.
-fn first_of(first: Option<LinkFault>, then: Option<LinkFault>) -> Option<LinkFault> {
+fn first_of(first: Option<LinkFault>, then: Option<LinkFault>) -> Option<LinkFault>
+    ensures { result ≡ first_fault first then }
+{
     match first {
         Some(_) => first,
         None => then,

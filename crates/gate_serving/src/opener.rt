@@ -1,5 +1,8 @@
 //! Where a line's links come from.
 
+ghost use Rattle.std.specs.Prelude.{◌≡◌};
+ghost use Rattle.gate_serving.specs.Faults.{end_fault};
+
 use gate_workers::{LinkFault, WriterEnd};
 use std::sync::atomic::AtomicBool;
 
@@ -63,7 +66,9 @@ pub struct LinkEnd {
 
 impl LinkEnd {
     /// The fault that ended the link, the reader's before the writer's; `None` where neither had one.
-    pub fn fault(&self) -> Option<LinkFault> {
+    pub fn fault(&self) -> Option<LinkFault>
+        ensures { result ≡ end_fault self.now.reader self.now.writer }
+    {
         if let Err(fault) = self.reader {
             return Some(fault);
         }

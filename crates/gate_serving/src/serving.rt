@@ -3,7 +3,7 @@
 ghost use Rattle.std.specs.Prelude.{◌≡◌, true, false, IfOk, IfErr};
 ghost use Rattle.std.specs.List.{AllZip};
 ghost use Rattle.gate_workers.specs.Pens.{HasEnded};
-ghost use Rattle.gate_serving.specs.Lines.{LineServed};
+ghost use Rattle.gate_serving.specs.Lines.{LineServed, log_of};
 ghost use Rattle.gate_serving.specs.Passed.{TicksDid, WasDone};
 ghost use Rattle.gate_serving.specs.declared.serving.ServeFault.TheVariants.{NoMemory, NoThread};
 
@@ -62,12 +62,14 @@ where
     H: Gate + Send + Drop,
     D: Clock + Send + Drop,
     ensures served { IfOk result (λ back. AllZip
-        (LineServed O.has_ended O.opened G.was_put G.was_taken (HasEnded O.Writer.contents) true)
+        (LineServed O.has_ended O.opened (log_of G.was_put C.told) G.was_taken
+        (HasEnded O.Writer.contents) true)
         lines.entry.items back.0.items) }
-    ensures ticked { IfOk result (λ back. WasDone (TicksDid G.was_put G.was_taken) ticks.entry back.1) }
+    ensures ticked { IfOk result (λ back. WasDone (TicksDid G.gave_back G.was_put G.was_taken C.told) ticks.entry back.1) }
     ensures no_thread { IfErr result (λ e. e.0 ≡ NoThread → AllZip
-        (LineServed O.has_ended O.opened G.was_put G.was_taken (HasEnded O.Writer.contents) false)
-        lines.entry.items e.1.items × WasDone (TicksDid G.was_put G.was_taken) ticks.entry e.2) }
+        (LineServed O.has_ended O.opened (log_of G.was_put C.told) G.was_taken
+        (HasEnded O.Writer.contents) false)
+        lines.entry.items e.1.items × WasDone (TicksDid G.gave_back G.was_put G.was_taken C.told) ticks.entry e.2) }
     ensures no_memory { IfErr result (λ e. e.0 ≡ NoMemory
         → (e.1.items ≡ lines.entry.items) × (e.2 ≡ ticks.entry)) }
 {

@@ -1,3 +1,4 @@
+mod Telling
 mod Run
 mod Ticking
 mod SoFar

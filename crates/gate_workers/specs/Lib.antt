@@ -1,3 +1,4 @@
+pub mod Moments
 pub mod ReadersWork
 pub mod WritersWork
 pub mod TickersWork

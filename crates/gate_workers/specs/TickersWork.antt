@@ -1,22 +1,38 @@
 -- What a ticker puts.
-use Rattle.std.specs.Prelude.{◌≡◌, ◌⊎◌, ℕ, ◌≤◌, ◌++◌, List, [], ◌∷◌}
+use Rattle.std.specs.Prelude.{◌≡◌, ◌⊎◌, ℕ, suc, ◌++◌, List, [], ◌∷◌, Option}
 use Rattle.link_io.specs.Events.{Event, ClientTick, PortTick}
+use Rattle.gate_workers.specs.Moments.{Tells}
 
--- a tick of one of so many clients or ports
-abbrev pub IsTick : (clients ports : ℕ) → Event → Type 0
-IsTick clients ports (ClientTick client at) = (1 ≤ client) × (client ≤ clients)
-IsTick clients ports (PortTick port at) = (1 ≤ port) × (port ≤ ports)
-IsTick clients ports other = ⊥
+-- a tick at this moment for each of so many clients, numbered from 1
+unfoldable pub client_ticks : (at clients : ℕ) → List Event
+client_ticks at ℕ.zero = []
+client_ticks at (suc n) = client_ticks at n ++ ClientTick (suc n) at ∷ []
 
-abbrev pub AreTicks : (clients ports : ℕ) → List Event → Type 0
-AreTicks clients ports [] = Unit {0}
-AreTicks clients ports (event ∷ events) = IsTick clients ports event × AreTicks clients ports events
+-- and for each of so many ports
+unfoldable pub port_ticks : (at ports : ℕ) → List Event
+port_ticks at ℕ.zero = []
+port_ticks at (suc n) = port_ticks at n ++ PortTick (suc n) at ∷ []
 
--- nothing but ticks was put
-abbrev pub PutsTicks : (clients ports : ℕ) → (put_old put_new : List Event) → Type 0
-PutsTicks clients ports put_old put_new =
-    (ticks : List Event) × (put_new ≡ put_old ++ ticks) × AreTicks clients ports ticks
+-- a round of ticks for each moment, in order: first the clients', then the ports'
+unfoldable pub rounds : (clients ports : ℕ) → (moments : List ℕ) → List Event
+rounds clients ports [] = []
+rounds clients ports (at ∷ later) = (client_ticks at clients ++ port_ticks at ports) ++ rounds clients ports later
 
--- an event was put, or given back and let go
-abbrev pub MayPut : Event → (put_old put_new : List Event) → Type 0
-MayPut event put_old put_new = (put_new ≡ put_old) ⊎ (put_new ≡ put_old ++ event ∷ [])
+-- these events were put in order, but for those that were given back
+abbrev pub PutsUnless : (gave_back : Event → Type 0) → (events put : List Event) → Type 0
+PutsUnless gave_back [] put = put ≡ []
+PutsUnless gave_back (event ∷ events) put =
+    ((more : List Event) × (put ≡ event ∷ more) × PutsUnless gave_back events more)
+    ⊎ (gave_back event × PutsUnless gave_back events put)
+
+-- behind what was put before
+abbrev pub PutsBehind : (gave_back : Event → Type 0) → (events put_old put_new : List Event) → Type 0
+PutsBehind gave_back events put_old put_new =
+    (put : List Event) × (put_new ≡ put_old ++ put) × PutsUnless gave_back events put
+
+-- a round of ticks was put for each moment that the clock told, in order, and nothing else
+abbrev pub PutsTicks : (gave_back : Event → Type 0) → (clients ports : ℕ) → (told_old told_new : Option (List ℕ))
+    → (put_old put_new : List Event) → Type 0
+PutsTicks gave_back clients ports told_old told_new put_old put_new =
+    (moments : List ℕ) × Tells told_old told_new moments
+    × PutsBehind gave_back (rounds clients ports moments) put_old put_new

@@ -38,7 +38,8 @@ pub fn client_reader<R: Wait, S: Read, G: Gate, C: Clock>(
     ensures reads { ReadsLink MadeOfFrames AreAllOfFrames
         (λ (f : FramesOfLink). (f.client ≡ client) × (f.link ≡ link))
         (law.ClientUp client link) (law.ClientGone client link) result
-        (G.was_put gate.old) (G.was_put gate.new) (S.remaining stream.old) (S.remaining stream.new) }
+        (G.was_put gate.old) (G.was_put gate.new) (C.told clock.old) (C.told clock.new)
+        (S.remaining stream.old) (S.remaining stream.new) }
     ensures none_taken { G.was_taken gate.new ≡ G.was_taken gate.old }
 {
     let at = clock.now_ms();
@@ -71,7 +72,8 @@ pub fn port_reader<R: Wait, S: Read, G: Gate, C: Clock>(
     ensures reads { ReadsLink MadeOfPackets AreAllOfPackets
         (λ (p : PacketsOfLink). (p.port ≡ port) × (p.link ≡ link))
         (law.PortUp port link) (law.PortGone port link) result
-        (G.was_put gate.old) (G.was_put gate.new) (S.remaining stream.old) (S.remaining stream.new) }
+        (G.was_put gate.old) (G.was_put gate.new) (C.told clock.old) (C.told clock.new)
+        (S.remaining stream.old) (S.remaining stream.new) }
     ensures none_taken { G.was_taken gate.new ≡ G.was_taken gate.old }
 {
     let at = clock.now_ms();
@@ -95,7 +97,8 @@ fn read_all<R: Wait, D: Decoder, S: Read, G: Gate, C: Clock>(
 ) -> Result<(), LinkFault>
     requires goes_on { reader.old.limit.over ≡ None }
     ensures reads { HasReadAll D.made D.are_all (λ d. D.source d ≡ D.source reader.old.decoder) result reader.old
-        (G.was_put gate.old) (G.was_put gate.new) (S.remaining stream.old) (S.remaining stream.new) }
+        (G.was_put gate.old) (G.was_put gate.new) (C.told clock.old) (C.told clock.new)
+        (S.remaining stream.old) (S.remaining stream.new) }
     ensures none_taken { G.was_taken gate.new ≡ G.was_taken gate.old }
 {
     let mut skips = Skips::new();
@@ -136,6 +139,7 @@ fn await_bytes<S: Read>(stream: &mut S)
 /// Puts an event as soon as there is room for it.
 fn put<R: Wait, G: Gate, C: Clock>(rt: &R, alloc: Global, event: Event, gate: &mut G, clock: &mut C)
     ensures put { G.was_put gate.new ≡ G.was_put gate.old ++ event_seen event ∷ [] }
+    ensures silent { C.told clock.new ≡ C.told clock.old }
     ensures none_taken { G.was_taken gate.new ≡ G.was_taken gate.old }
 {
     let mut waiting = event;

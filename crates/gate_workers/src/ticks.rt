@@ -1,8 +1,8 @@
 //! The loop of the thread that makes time pass.
 
-ghost use Rattle.std.specs.Prelude.{◌≡◌, ℕ};
+ghost use Rattle.std.specs.Prelude.{◌≡◌, ◌∷◌, []};
 ghost use Rattle.link_io.specs.Seen.{event_seen};
-ghost use Rattle.gate_workers.specs.TickersWork.{MayPut, PutsTicks};
+ghost use Rattle.gate_workers.specs.TickersWork.{PutsBehind, PutsTicks, client_ticks, port_ticks};
 
 use crate::clock::Clock;
 use link_io::{ClientNumber, Event, Gate, PortNumber};
@@ -21,7 +21,8 @@ pub fn ticker<R: Wait, G: Gate, C: Clock>(
     clock: &mut C,
     stop: &AtomicBool,
 )
-    ensures ticks { PutsTicks clients ports (G.was_put gate.old) (G.was_put gate.new) }
+    ensures ticks { PutsTicks G.gave_back clients ports (C.told clock.old) (C.told clock.new)
+        (G.was_put gate.old) (G.was_put gate.new) }
     ensures none_taken { G.was_taken gate.new ≡ G.was_taken gate.old }
 {
     for _ in rt.forever() {
@@ -38,7 +39,7 @@ pub fn ticker<R: Wait, G: Gate, C: Clock>(
 
 /// Puts a tick of this moment for each client.
 fn tick_clients<R: Wait, G: Gate>(rt: &R, alloc: Global, clients: u16, at: u64, gate: &mut G)
-    ensures ticks { (ports : ℕ) → PutsTicks clients ports (G.was_put gate.old) (G.was_put gate.new) }
+    ensures ticks { PutsBehind G.gave_back (client_ticks at clients) (G.was_put gate.old) (G.was_put gate.new) }
     ensures none_taken { G.was_taken gate.new ≡ G.was_taken gate.old }
 {
     for i in 0..clients {
@@ -49,7 +50,7 @@ fn tick_clients<R: Wait, G: Gate>(rt: &R, alloc: Global, clients: u16, at: u64, 
 
 /// Puts a tick of this moment for each port.
 fn tick_ports<R: Wait, G: Gate>(rt: &R, alloc: Global, ports: u16, at: u64, gate: &mut G)
-    ensures ticks { (clients : ℕ) → PutsTicks clients ports (G.was_put gate.old) (G.was_put gate.new) }
+    ensures ticks { PutsBehind G.gave_back (port_ticks at ports) (G.was_put gate.old) (G.was_put gate.new) }
     ensures none_taken { G.was_taken gate.new ≡ G.was_taken gate.old }
 {
     for i in 0..ports {
@@ -60,7 +61,7 @@ fn tick_ports<R: Wait, G: Gate>(rt: &R, alloc: Global, ports: u16, at: u64, gate
 
 /// Puts an event if there is room for it, and steps the core.
 fn tick<R: Wait, G: Gate>(rt: &R, alloc: Global, event: Event, gate: &mut G)
-    ensures put { MayPut (event_seen event) (G.was_put gate.old) (G.was_put gate.new) }
+    ensures put { PutsBehind G.gave_back (event_seen event ∷ []) (G.was_put gate.old) (G.was_put gate.new) }
     ensures none_taken { G.was_taken gate.new ≡ G.was_taken gate.old }
 {
     let _ = gate.put(event);

@@ -82,6 +82,10 @@ impl<'a, K: DeskName, R: Wait + time::Clock + Eprint> RunClock<'a, K, R> {
 }
 
 impl<'a, K: DeskName, R: Wait + time::Clock + Eprint> Clock for RunClock<'a, K, R> {
+    ghost use Rattle.std.specs.Prelude.{None};
+
+    ghost told = { λ _. None };
+
     fn now_ms(&mut self) -> u64 {
         self.clock.now_ms()
     }

@@ -129,6 +129,8 @@ impl<'a, G: Gate, K: DeskName, R: Wait + Clock + Eprint> Gate for RunGate<'a, G,
 
     ghost was_taken = { λ t. G.was_taken t.gate };
 
+    ghost gave_back = { λ _. Unit {0} };
+
     /// Puts an event; a tick only where it is due, once the desk could be had.
     fn put(&mut self, event: Event) -> Result<(), Event> {
         if self.is_left_out(&event) {

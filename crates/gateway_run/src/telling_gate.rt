@@ -50,6 +50,8 @@ impl<'a, G: Gate, R: Clock + Eprint> Gate for TellingGate<'a, G, R> {
 
     ghost was_taken = { λ t. G.was_taken t.gate };
 
+    ghost gave_back = { λ _. Unit {0} };
+
     fn put(&mut self, event: Event) -> Result<(), Event> {
         self.gate.put(event)
     }

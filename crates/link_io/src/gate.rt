@@ -16,12 +16,16 @@ pub trait Gate {
 
     ghost was_taken: { Self → List (List law.LinkOut) };
 
+    // It was given this event and gave it back.
+    ghost gave_back: { law.Event → Type 0 };
+
     /// Puts an event, or gives it back if there is no room for it now. It may wait for the core's lock, never for room,
     /// and takes no memory.
     fn put(&mut self, event: Event) -> Result<(), Event>
         ensures put { OnOk result (was_put self.new ≡ was_put self.old ++ event_seen event ∷ []) }
         ensures back { IfErr result (λ back. (event_seen back ≡ event_seen event)
             × (was_put self.new ≡ was_put self.old)) }
+        ensures gave_back { IfErr result (λ _. gave_back (event_seen event)) }
         ensures none_taken { was_taken self.new ≡ was_taken self.old };
 
     /// Takes the next list of output, if there is one. Waits for nobody, takes no memory.

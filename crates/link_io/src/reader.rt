@@ -58,6 +58,7 @@ impl Reader<ClientFrames> {
     pub fn new(alloc: Global, client: ClientNumber, link: u64, steps: u64) -> ClientReader
         requires from_one { 1 ≤ steps }
         ensures begins { Gave MadeOfFrames [] [] result }
+        ensures fresh { result.offered ≡ None }
         ensures source { (result.decoder.client ≡ client) × (result.decoder.link ≡ link) }
         ensures limit { result.limit ≡ record { left = steps - 1; over = None } }
     {
@@ -70,6 +71,7 @@ impl Reader<PortPackets> {
     pub fn new(alloc: Global, port: PortNumber, link: u64, steps: u64) -> PortReader
         requires from_one { 1 ≤ steps }
         ensures begins { Gave MadeOfPackets [] [] result }
+        ensures fresh { result.offered ≡ None }
         ensures source { (result.decoder.port ≡ port) × (result.decoder.link ≡ link) }
         ensures limit { result.limit ≡ record { left = steps - 1; over = None } }
     {

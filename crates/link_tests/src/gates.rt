@@ -114,6 +114,8 @@ impl Gate for Kept {
 
     ghost was_taken = { λ g. map (λ v. map link_out_seen v.items) g.given.items };
 
+    ghost gave_back = { λ _. Unit {0} };
+
     fn put(&mut self, event: Event) -> Result<(), Event> {
         if self.left > 0 {
             self.left -= 1;

@@ -68,6 +68,8 @@ impl<'a, R: time::Clock> Gate for Waiting<'a, R> {
 
     ghost was_taken = { λ g. map (λ v. map link_out_seen v.items) g.kept.given.items };
 
+    ghost gave_back = { λ _. Unit {0} };
+
     fn put(&mut self, event: Event) -> Result<(), Event> {
         self.puts = self.puts.saturating_add(1);
         if self.puts == self.waits_at {
@@ -115,6 +117,10 @@ impl<'a, R> Sleeping<'a, R> {
 }
 
 impl<'a, R: time::Clock> Clock for Sleeping<'a, R> {
+    ghost use Rattle.std.specs.Prelude.{None};
+
+    ghost told = { λ _. None };
+
     fn now_ms(&mut self) -> u64 {
         self.moment = self.moment.saturating_add(1);
         self.moment

@@ -11,7 +11,7 @@ use Rattle.std.proofs.Common.{◌≡◌, arith, Bool, true, false}
 use Rattle.std.proofs.lemmas.Slice.Zip.{AllZip-long}
 use Rattle.gate_workers.specs.Pens.{HasEnded}
 use Rattle.gate_serving.specs.Halves.{IsJoined, IsSplit}
-use Rattle.gate_serving.specs.Lines.{LineServed}
+use Rattle.gate_serving.specs.Lines.{LineServed, log_of}
 use Rattle.gate_serving.proofs.Served.{HalvesDid, all_of_any, all_through, served_in_part, served_whole}
 use Rattle.gate_serving.proofs.serving.serve.Goals as goal
 
@@ -32,20 +32,20 @@ joined-back-requires-clause-room g c =
 pub returns-then-not-load-clause-served : goal.returns-then-not-load-clause-served
 returns-then-not-load-clause-served g c =
     all_through IsSplit
-    (HalvesDid g.O.Opener.has_ended g.O.Opener.opened g.G.Gate.was_put g.G.Gate.was_taken (HasEnded _))
+    (HalvesDid g.O.Opener.has_ended g.O.Opener.opened (log_of g.G.Gate.was_put g.C.Clock.told) g.G.Gate.was_taken (HasEnded _))
     IsJoined (λ x. ◌≡◌ {A = Bool} x.0.all_over true)
-    (LineServed g.O.Opener.has_ended g.O.Opener.opened g.G.Gate.was_put g.G.Gate.was_taken (HasEnded _) true)
-    (served_whole g.O.Opener.has_ended g.O.Opener.opened g.G.Gate.was_put g.G.Gate.was_taken (HasEnded _))
+    (LineServed g.O.Opener.has_ended g.O.Opener.opened (log_of g.G.Gate.was_put g.C.Clock.told) g.G.Gate.was_taken (HasEnded _) true)
+    (served_whole g.O.Opener.has_ended g.O.Opener.opened (log_of g.G.Gate.was_put g.C.Clock.told) g.G.Gate.was_taken (HasEnded _))
     _ _ _ _ c.split-halves.ensures.lines c.run_all-halves.ensures.did
     (c.joined-back.ensures.all_over c.if-all_over.true) c.joined-back.ensures.lines
 
 pub returns-clause-no_thread : goal.returns-clause-no_thread
 returns-clause-no_thread g c = λ e. (
   all_through IsSplit
-      (HalvesDid g.O.Opener.has_ended g.O.Opener.opened g.G.Gate.was_put g.G.Gate.was_taken (HasEnded _))
+      (HalvesDid g.O.Opener.has_ended g.O.Opener.opened (log_of g.G.Gate.was_put g.C.Clock.told) g.G.Gate.was_taken (HasEnded _))
       IsJoined (λ x. Unit {0})
-      (LineServed g.O.Opener.has_ended g.O.Opener.opened g.G.Gate.was_put g.G.Gate.was_taken (HasEnded _) false)
-      (served_in_part g.O.Opener.has_ended g.O.Opener.opened g.G.Gate.was_put g.G.Gate.was_taken (HasEnded _))
+      (LineServed g.O.Opener.has_ended g.O.Opener.opened (log_of g.G.Gate.was_put g.C.Clock.told) g.G.Gate.was_taken (HasEnded _) false)
+      (served_in_part g.O.Opener.has_ended g.O.Opener.opened (log_of g.G.Gate.was_put g.C.Clock.told) g.G.Gate.was_taken (HasEnded _))
       _ _ _ _ c.split-halves.ensures.lines c.run_all-halves.ensures.did
       (all_of_any c.run_all-halves.result.0.items) c.joined-back.ensures.lines,
   c.run_all-halves.ensures.meanwhile,

@@ -12,7 +12,7 @@ loop-reads-preserved g c = record {
   can_next = tt;
   is_finite = tt;
   lines = rw c.in-Ok.ensures.items (all_zipped_more IsJoined _ _
-      (c.in-Some.reads, c.in-Some.writes) _ c.loop-reads.invariant.lines (refl, refl, refl, refl, refl));
+      (c.in-Some.reads, c.in-Some.writes) _ c.loop-reads.invariant.lines (refl, refl, refl, refl, refl, refl));
   over = λ e. All-push (λ x. ◌≡◌ {A = Bool} x.0.all_over true) _ (c.in-Some.reads, c.in-Some.writes)
       (c.loop-reads.invariant.over (c.both-all_over.ensures e).0) (c.both-all_over.ensures e).1;
   count = omega (

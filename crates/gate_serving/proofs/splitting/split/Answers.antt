@@ -27,7 +27,7 @@ loop-line-preserved g c = record {
   can_next = tt;
   is_finite = tt;
   lines = rw c.in-Ok.ensures.items (all_zipped_more IsSplit _ _ c.in-Some.line _ c.loop-line.invariant.lines
-      (refl, refl, refl, refl, refl, refl));
+      (refl, refl, refl, refl, refl, refl, refl, refl, refl, refl));
   count = omega (
     arith,
     length_push c.loop-line.yielded c.in-Some.line,

@@ -11,9 +11,9 @@ pub loop-init : goal.loop-init
 loop-init g c = record {
   can_next = tt;
   is_finite = tt;
-  reads = read_awaited g.D.Decoder.made g.D.Decoder.are_all _ _ _ _ _ _ _
+  reads = read_awaited g.D.Decoder.made g.D.Decoder.are_all _ _ _ _ _ _ _ _ _
       (read_none g.D.Decoder.made g.D.Decoder.are_all c.args.reader.now (g.G.Gate.was_put c.args.gate.now)
-      (g.S.Read.remaining c.args.stream.now)) c.await_bytes.ensures.same;
+      (g.C.Clock.told c.args.clock.now) (g.S.Read.remaining c.args.stream.now)) c.await_bytes.ensures.same;
   goes_on = c.requires.goes_on;
   source = refl;
   none_taken = refl;
@@ -26,10 +26,11 @@ loop-preserved-in-Read g c =
     record {
       can_next = tt;
       is_finite = tt;
-      reads = read_awaited g.D.Decoder.made g.D.Decoder.are_all _ _ _ _ _ _ _
+      reads = read_awaited g.D.Decoder.made g.D.Decoder.are_all _ _ _ _ _ _ _ _ _
           (read_step g.D.Decoder.made g.D.Decoder.are_all c.now_ms-at.result
-          (Ok c.in-Ok.progress) c.args.reader.now c.loop.reader c.step-done.new.self _ _ _ _ _ _ _
-          c.loop.invariant.reads c.in-Ok.ensures.reads on c.turn.ensures.none_put) c.await_bytes-in-Read.ensures.same;
+          (Ok c.in-Ok.progress) c.args.reader.now c.loop.reader c.step-done.new.self _ _ _ _ _ _ _ _
+          _ _ _ c.loop.invariant.reads c.now_ms-at.ensures.tells c.in-Ok.ensures.reads on c.turn.ensures.none_put
+          refl) c.await_bytes-in-Read.ensures.same;
       goes_on = limit-goes_on {A = Progress} c.loop.reader.limit c.step-done.new.self.limit
           (Ok c.in-Ok.progress) refl on c.in-Ok.ensures.limit;
       source = c.step-done.ensures.source ∙ c.loop.invariant.source;
@@ -44,8 +45,9 @@ loop-preserved-in-Held g c =
       can_next = tt;
       is_finite = tt;
       reads = read_step g.D.Decoder.made g.D.Decoder.are_all c.now_ms-at.result
-          (Ok c.in-Ok.progress) c.args.reader.now c.loop.reader c.step-done.new.self _ _ _ _ _ _ _
-          c.loop.invariant.reads c.in-Ok.ensures.reads on c.turn.ensures.none_put;
+          (Ok c.in-Ok.progress) c.args.reader.now c.loop.reader c.step-done.new.self _ _ _ _ _ _ _ _
+          _ _ _ c.loop.invariant.reads c.now_ms-at.ensures.tells c.in-Ok.ensures.reads on c.turn.ensures.none_put
+          c.pause.ensures.silent;
       goes_on = limit-goes_on {A = Progress} c.loop.reader.limit c.step-done.new.self.limit
           (Ok c.in-Ok.progress) refl on c.in-Ok.ensures.limit;
       source = c.step-done.ensures.source ∙ c.loop.invariant.source;
@@ -58,13 +60,14 @@ returns-in-Ended-clause-reads g c =
     (λ f q. (c.in-Ok.ensures.refused f q).0) in
     subst (λ (v : List law.Event). HasReadAll g.D.Decoder.made g.D.Decoder.are_all
     (λ d. g.D.Decoder.source d ≡ g.D.Decoder.source c.args.reader.now.decoder) (Ok tt) c.args.reader.now
-    (g.G.Gate.was_put c.args.gate.now) v (g.S.Read.remaining c.args.stream.now)
+    (g.G.Gate.was_put c.args.gate.now) v (g.C.Clock.told c.args.clock.now) (g.C.Clock.told c.now_ms-at.new.self)
+    (g.S.Read.remaining c.args.stream.now)
     (g.S.Read.remaining c.step-done.new.stream))
     (sym c.turn.ensures.none_put)
     (read_to_end g.D.Decoder.made g.D.Decoder.are_all
     (λ d. g.D.Decoder.source d ≡ g.D.Decoder.source c.args.reader.now.decoder) c.now_ms-at.result c.args.reader.now
-    c.loop.reader c.step-done.new.self _ _ _ _ _ _
-    c.loop.invariant.reads (rw c.in-Ended.is at c.in-Ok.ensures.reads on)
+    c.loop.reader c.step-done.new.self _ _ _ _ _ _ _ _
+    _ c.loop.invariant.reads c.now_ms-at.ensures.tells (rw c.in-Ended.is at c.in-Ok.ensures.reads on)
     (c.step-done.ensures.source ∙ c.loop.invariant.source))
 
 pub returns-then-ends_link-clause-reads : goal.returns-then-ends_link-clause-reads
@@ -73,12 +76,13 @@ returns-then-ends_link-clause-reads g c =
     subst (λ (v : List law.Event). HasReadAll g.D.Decoder.made g.D.Decoder.are_all
     (λ d. g.D.Decoder.source d ≡ g.D.Decoder.source c.args.reader.now.decoder)
     (Err c.in-Err.fault) c.args.reader.now (g.G.Gate.was_put c.args.gate.now) v
+    (g.C.Clock.told c.args.clock.now) (g.C.Clock.told c.now_ms-at.new.self)
     (g.S.Read.remaining c.args.stream.now) (g.S.Read.remaining c.step-done.new.stream))
     (sym c.turn.ensures.none_put)
     (read_fault g.D.Decoder.made g.D.Decoder.are_all
     (λ d. g.D.Decoder.source d ≡ g.D.Decoder.source c.args.reader.now.decoder) c.now_ms-at.result c.in-Err.fault
-    c.args.reader.now c.loop.reader c.step-done.new.self _ _ _ _ _ _
-    over c.loop.invariant.goes_on c.loop.invariant.reads c.in-Err.ensures.reads
+    c.args.reader.now c.loop.reader c.step-done.new.self _ _ _ _ _ _ _ _ _
+    over c.loop.invariant.goes_on c.loop.invariant.reads c.now_ms-at.ensures.tells c.in-Err.ensures.reads
     (λ f q. let same = c.in-Err.ensures.refused f q in
     (let e = same.0 in cc, ap g.S.Read.remaining same.1, ap g.G.Gate.was_put same.2))
     c.loop.invariant.source (c.step-done.ensures.source ∙ c.loop.invariant.source))
@@ -92,8 +96,9 @@ loop-preserved g c =
       can_next = tt;
       is_finite = tt;
       reads = read_step g.D.Decoder.made g.D.Decoder.are_all c.now_ms-at.result
-          (Err c.in-Err.fault) c.args.reader.now c.loop.reader c.step-done.new.self _ _ _ _ _ _ _
-          c.loop.invariant.reads c.in-Err.ensures.reads on c.turn.ensures.none_put;
+          (Err c.in-Err.fault) c.args.reader.now c.loop.reader c.step-done.new.self _ _ _ _ _ _ _ _
+          _ _ _ c.loop.invariant.reads c.now_ms-at.ensures.tells c.in-Err.ensures.reads on c.turn.ensures.none_put
+          c.pause-in-Err.ensures.silent;
       goes_on = limit-goes_on {A = Progress} c.loop.reader.limit c.step-done.new.self.limit (Err c.in-Err.fault)
           (rw memory refl) on c.in-Err.ensures.limit;
       source = c.step-done.ensures.source ∙ c.loop.invariant.source;

@@ -1,15 +1,16 @@
-use Rattle.std.proofs.Common.{◌∙◌, refl, arith}
-use Rattle.link_io.specs.Events.{PortTick}
-use Rattle.gate_workers.proofs.Ticking.{ticks_more, ticks_none}
+use Rattle.std.proofs.Common.{◌∙◌, ◌+◌, refl}
+use Rattle.gate_workers.proofs.Ticking.{port_more, ports_none}
 use Rattle.gate_workers.proofs.ticks.tick_ports.Goals as goal
 
 pub loop-i-init : goal.loop-i-init
-loop-i-init g c = record { puts = λ o. ticks_none o c.args.ports (g.G.Gate.was_put c.args.gate.now); none_taken = refl }
+loop-i-init g c = record {
+  puts = ports_none g.G.Gate.gave_back c.args.at (g.G.Gate.was_put c.args.gate.now);
+  none_taken = refl;
+}
 
 pub loop-i-preserved : goal.loop-i-preserved
 loop-i-preserved g c = record {
-  puts = λ o. ticks_more o c.args.ports (PortTick c.new-port.result c.args.at) _ _ _
-      (omega (arith, c.new-port.ensures), omega (arith, c.new-port.ensures, c.loop-i-test.true))
-      (c.loop-i.invariant.puts o) c.tick.ensures.put;
+  puts = port_more g.G.Gate.gave_back c.args.at c.loop-i.i (c.loop-i.i + 1) c.new-port.result _ _ _
+      refl c.new-port.ensures c.loop-i.invariant.puts c.tick.ensures.put;
   none_taken = c.tick.ensures.none_taken ∙ c.loop-i.invariant.none_taken;
 }
