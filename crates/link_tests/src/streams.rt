@@ -15,8 +15,8 @@ pub fn holds<R: Abort>(rt: &R, is_so: bool) {
     assert!(rt; is_so);
 }
 
-/// A reader that gives so many bytes a read of what it has, and fails at its read of this number, from 0. A read into no
-/// place isn't counted.
+/// A reader that gives so many bytes a read of what it has, and fails at its read of this number, from 0. A read into
+/// no place isn't counted.
 #[derive(Drop)]
 pub struct Pieces<'a> {
     pub rest: &'a [u8],
