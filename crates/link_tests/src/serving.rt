@@ -1,6 +1,6 @@
 //! Lines that are served at once.
 
-ghost use Rattle.std.specs.Prelude.{◌≡◌, ◌≤◌, []};
+ghost use Rattle.std.specs.Prelude.{◌≡◌, ◌≤◌, [], IfOk};
 
 use super::gates::Kept;
 use super::lines::{Counted, Links, Seen, Sleeping, Waiting};
