@@ -24,12 +24,7 @@ pub fn random_steps(
     shape: &Shape,
 ) -> io::Result<Vec<WorldStep>> {
     let mut maker = Maker::new(alloc, settings, shape)?;
-    maker.begin(alloc)?;
-    let weights = Weights::of(&mut maker.chance);
-    for _ in 0..shape.steps {
-        maker.draw(alloc, &weights)?;
-    }
-    maker.end(alloc, shape.steps)?;
+    maker.make(alloc, shape.steps)?;
     Ok(maker.steps)
 }
 
@@ -66,6 +61,16 @@ impl Maker {
             newest: 0,
             trades: 0,
         })
+    }
+
+    /// So many steps between the logons and the deliveries.
+    fn make(&mut self, alloc: Global, steps: u32) -> io::Result<()> {
+        self.begin(alloc)?;
+        let weights = Weights::of(&mut self.chance);
+        for _ in 0..steps {
+            self.draw(alloc, &weights)?;
+        }
+        self.end(alloc, steps)
     }
 
     /// Each client logs on, and each port is connected.
