@@ -6,10 +6,10 @@ use crate::ending::end_in_time;
 use crate::naming::names_of;
 use crate::served_port::ServedPort;
 use crate::waiting_room::WaitingRoom;
+use audit_lines::Settings;
 use gateway_control::{DayControl, Endpoint, Rules, serve_endpoint};
-use gateway_run::{
-    Day, DayJournal, LinkRules, RunFault, RunPlan, Settings, SettingsFile, Teller, Whose, run_shown,
-};
+use gateway_log::{Teller, Whose};
+use gateway_run::{Day, DayJournal, LinkRules, RunFault, RunPlan, SettingsFile, run_shown};
 use operator_settings::{AddressRange, DaySettings, OperatorSettings};
 use std::alloc::{AllocError, Global};
 use std::hash::RandomState;
