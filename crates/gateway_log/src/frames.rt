@@ -1,4 +1,5 @@
-//! What is told of the frames that a client is sent: those that refuse a message, ask for messages again or end a session.
+//! What is told of the frames that a client is sent: those that refuse a message, ask for messages again or end a
+//! session.
 
 use crate::teller::Teller;
 use fix_framing::{SOH, front_body};
