@@ -67,46 +67,69 @@ impl Client {
     /// A new order.
     fn new_order(&mut self, alloc: Global, chance: &mut Chance, at: u64) -> io::Result<Vec<u8>> {
         let mut body = Vec::new(alloc);
+        self.push_new_order(alloc, &mut body, chance)?;
+        self.text(alloc, "D", body.as_slice(), at)
+    }
+
+    /// Adds the fields of a new order.
+    fn push_new_order(
+        &mut self,
+        alloc: Global,
+        body: &mut Vec<u8>,
+        chance: &mut Chance,
+    ) -> io::Result<()> {
         let (id, is_new) = self.some_id(chance);
         let total = drawn_total(chance);
         let side = drawn_side(chance);
         write!(body, "11=A{id}\x0154={side}\x0155=INTC\x01")?;
         write!(body, "38={total}\x0140=2\x01")?;
-        push_price(&mut body, chance)?;
-        push_life_or(&mut body, chance, b"59=4\x01")?;
-        push_minimum(&mut body, chance, total)?;
-        push_options(&mut body, chance)?;
+        push_price(body, chance)?;
+        push_life_or(body, chance, b"59=4\x01")?;
+        push_minimum(body, chance, total)?;
+        push_options(body, chance)?;
         if is_new {
             self.orders.push(Order {
                 ids: vec![in alloc; id]?,
             })?;
         }
-        self.text(alloc, "D", body.as_slice(), at)
+        Ok(())
     }
 
     /// A replace.
     fn replace(&mut self, alloc: Global, chance: &mut Chance, at: u64) -> io::Result<Vec<u8>> {
         let mut body = Vec::new(alloc);
+        self.push_replace(&mut body, chance)?;
+        self.text(alloc, "G", body.as_slice(), at)
+    }
+
+    /// Adds the fields of a replace.
+    fn push_replace(&mut self, body: &mut Vec<u8>, chance: &mut Chance) -> io::Result<()> {
         let (id, is_new) = self.some_id(chance);
         let total = drawn_total(chance);
-        let place = self.push_order(&mut body, chance)?;
+        let place = self.push_order(body, chance)?;
         write!(body, "11=A{id}\x0138={total}\x0140=2\x01")?;
-        push_price(&mut body, chance)?;
-        push_life_or(&mut body, chance, b"")?;
-        push_minimum(&mut body, chance, total)?;
+        push_price(body, chance)?;
+        push_life_or(body, chance, b"")?;
+        push_minimum(body, chance, total)?;
         if is_new && place < self.orders.len() {
             self.orders[place].ids.push(id)?;
         }
-        self.text(alloc, "G", body.as_slice(), at)
+        Ok(())
     }
 
     /// A cancel.
     fn cancel(&mut self, alloc: Global, chance: &mut Chance, at: u64) -> io::Result<Vec<u8>> {
         let mut body = Vec::new(alloc);
-        let (id, _) = self.some_id(chance);
-        self.push_order(&mut body, chance)?;
-        write!(body, "11=A{id}\x0154=1\x0155=INTC\x01")?;
+        self.push_cancel(&mut body, chance)?;
         self.text(alloc, "F", body.as_slice(), at)
+    }
+
+    /// Adds the fields of a cancel.
+    fn push_cancel(&mut self, body: &mut Vec<u8>, chance: &mut Chance) -> io::Result<()> {
+        let (id, _) = self.some_id(chance);
+        self.push_order(body, chance)?;
+        write!(body, "11=A{id}\x0154=1\x0155=INTC\x01")?;
+        Ok(())
     }
 
     /// A ClOrdID: the next one, or in one of twenty one that may be used; and whether it is the next one.
@@ -142,6 +165,13 @@ impl Client {
     /// A message's text with its header.
     fn text(&mut self, alloc: Global, kind: &str, body: &[u8], at: u64) -> io::Result<Vec<u8>> {
         let mut text = Vec::new(alloc);
+        self.push_text(&mut text, kind, body, at)?;
+        self.next = self.next.saturating_add(1);
+        Ok(text)
+    }
+
+    /// Adds a message's header and body.
+    fn push_text(&self, text: &mut Vec<u8>, kind: &str, body: &[u8], at: u64) -> io::Result<()> {
         let number = self.number.number();
         let next = self.next;
         write!(
@@ -151,8 +181,7 @@ impl Client {
         text.extend_from_slice(&stamp(at))?;
         text.extend_from_slice(b"\x01")?;
         text.extend_from_slice(body)?;
-        self.next = self.next.saturating_add(1);
-        Ok(text)
+        Ok(())
     }
 }
 
