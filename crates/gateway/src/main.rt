@@ -41,113 +41,76 @@ use played::{asked_shape, play_world};
 use served::{asked_end, asked_serve, end_of_day, end_served, serve_until_told};
 
 fn main(rt: HostRuntime) -> ExitCode {
-    match words_of(&rt) {
-        Ok(words) => done_by(&rt, words.as_slice()),
-        Err(status) => status,
-    }
-}
-
-/// Does what these words ask for, and gives the status to end with.
-fn done_by(rt: &HostRuntime, words: &[String]) -> ExitCode {
-    match asked(rt.alloc(), words) {
-        Ok(Some(asked)) => done(rt, asked),
+    let words = match words_of(&rt) {
+        Ok(words) => words,
+        Err(status) => return status,
+    };
+    match asked(rt.alloc(), words.as_slice()) {
+        Ok(Some(Asked::Audit(path))) => with_script(&rt, path, false),
+        Ok(Some(Asked::Keep(path))) => with_script(&rt, path, true),
+        Ok(
+            Some(
+                Asked::AuditDay {
+                    journal,
+                    settings,
+                    so_far,
+                },
+            ),
+        ) => audit_journal(&rt, journal, settings, so_far),
+        Ok(
+            Some(
+                Asked::Run {
+                    settings,
+                    links,
+                    journal,
+                    sync,
+                },
+            ),
+        ) => match asked_run(&rt, settings, links, journal, sync) {
+            Ok(asked) => serve_file(&rt, rt.alloc(), asked, &mut rt.stderr()),
+            Err(status) => status,
+        },
+        Ok(
+            Some(
+                Asked::Serve {
+                    settings,
+                    journal,
+                    sync,
+                },
+            ),
+        ) => match asked_serve(&rt, settings, journal, sync) {
+            Ok(asked) => serve_until_told(&rt, rt.alloc(), asked, &mut rt.stderr()),
+            Err(status) => status,
+        },
+        Ok(Some(Asked::End { settings, at_once })) => end_served(&rt, settings, at_once),
+        Ok(Some(Asked::EndDay { journal, settings })) => match asked_end(&rt, settings, journal) {
+            Ok(asked) => end_of_day(&rt, rt.alloc(), asked, &mut rt.stderr()),
+            Err(status) => status,
+        },
+        Ok(Some(Asked::Export { journal, format })) => export_journal(&rt, journal, format),
+        Ok(
+            Some(
+                Asked::World {
+                    seed,
+                    steps,
+                    clients,
+                    ports,
+                },
+            ),
+        ) => match asked_shape(&rt, seed, steps, clients, ports) {
+            Ok(shape) => play_world(&rt, &shape),
+            Err(status) => status,
+        },
+        Ok(Some(Asked::Demo)) => demonstrate(&rt, rt.alloc(), &mut rt.stderr()),
+        Ok(Some(Asked::ServedDemo)) => match asked_demo(&rt) {
+            Ok(demo) => serve_demo(&rt, rt.alloc(), demo, &mut rt.stderr()),
+            Err(status) => status,
+        },
         Ok(None) => refused(
-            rt,
+            &rt,
             "an audit is of --script FILE, or of --journal FILE with --settings FILE",
         ),
-        Err(error) => ExitCode::from(unasked(&error, &mut io::writer(rt), &mut rt.stderr())),
-    }
-}
-
-/// Does what is asked for, and gives the status to end with.
-fn done(rt: &HostRuntime, asked: Asked<'_>) -> ExitCode {
-    match asked {
-        Asked::Audit(path) => with_script(rt, path, false),
-        Asked::Keep(path) => with_script(rt, path, true),
-        Asked::AuditDay {
-            journal,
-            settings,
-            so_far,
-        } => audit_journal(rt, journal, settings, so_far),
-        Asked::Run {
-            settings,
-            links,
-            journal,
-            sync,
-        } => run_asked(rt, settings, links, journal, sync),
-        Asked::Serve {
-            settings,
-            journal,
-            sync,
-        } => serve_asked(rt, settings, journal, sync),
-        Asked::End { settings, at_once } => end_served(rt, settings, at_once),
-        Asked::EndDay { journal, settings } => end_asked(rt, settings, journal),
-        Asked::Export { journal, format } => export_journal(rt, journal, format),
-        Asked::World {
-            seed,
-            steps,
-            clients,
-            ports,
-        } => world_asked(rt, seed, steps, clients, ports),
-        Asked::Demo => demonstrate(rt, rt.alloc(), &mut rt.stderr()),
-        Asked::ServedDemo => demo_asked(rt),
-    }
-}
-
-/// `run`.
-fn run_asked(
-    rt: &HostRuntime,
-    settings: &str,
-    links: Option<&str>,
-    journal: Option<&str>,
-    sync: Option<&str>,
-) -> ExitCode {
-    match asked_run(rt, settings, links, journal, sync) {
-        Ok(asked) => serve_file(rt, rt.alloc(), asked, &mut rt.stderr()),
-        Err(status) => status,
-    }
-}
-
-/// `serve`.
-fn serve_asked(
-    rt: &HostRuntime,
-    settings: &str,
-    journal: Option<&str>,
-    sync: Option<&str>,
-) -> ExitCode {
-    match asked_serve(rt, settings, journal, sync) {
-        Ok(asked) => serve_until_told(rt, rt.alloc(), asked, &mut rt.stderr()),
-        Err(status) => status,
-    }
-}
-
-/// `end` of a journal.
-fn end_asked(rt: &HostRuntime, settings: &str, journal: &str) -> ExitCode {
-    match asked_end(rt, settings, journal) {
-        Ok(asked) => end_of_day(rt, rt.alloc(), asked, &mut rt.stderr()),
-        Err(status) => status,
-    }
-}
-
-/// `world`.
-fn world_asked(
-    rt: &HostRuntime,
-    seed: &str,
-    steps: &str,
-    clients: Option<&str>,
-    ports: Option<&str>,
-) -> ExitCode {
-    match asked_shape(rt, seed, steps, clients, ports) {
-        Ok(shape) => play_world(rt, &shape),
-        Err(status) => status,
-    }
-}
-
-/// `demo --serve`.
-fn demo_asked(rt: &HostRuntime) -> ExitCode {
-    match asked_demo(rt) {
-        Ok(demo) => serve_demo(rt, rt.alloc(), demo, &mut rt.stderr()),
-        Err(status) => status,
+        Err(error) => ExitCode::from(unasked(&error, &mut io::writer(&rt), &mut rt.stderr())),
     }
 }
 

@@ -7,7 +7,7 @@ use std::time::Clock;
 use std::{fmt, str};
 
 /// What is told of: a client or a port, by its number from 1, or the gateway itself.
-#[derive(Clone, Copy, Debug, PartialEq, Eq)]
+#[derive(Clone, Copy)]
 pub enum Whose {
     Client(usize),
     Port(usize),

@@ -36,7 +36,7 @@ impl<A: Drop, C: Drop> RunPlan<A, C> {
 }
 
 /// What is done with links beside serving them.
-#[derive(Clone, Copy, Debug)]
+#[derive(Clone, Copy)]
 pub struct LinkRules {
     /// Whether standard error has how many bytes of a client's link were part of no frame, and each Reject,
     /// ResendRequest and Logout that a client is sent.
