@@ -132,7 +132,7 @@ impl DayJournal {
 
     /// The file, and the day that it has.
     pub fn into_parts(self) -> (HostFile, History)
-        ensures day { result.1 ≡ self.entry }
+        ensures day { result.1 ≡ self }
         ensures has { HasAll host_seen host_may_leave result.1.pages result.0 }
     {
         let DayJournal {

@@ -57,7 +57,7 @@ impl<K: DeskName> Left<K> {
 
     /// What was put and taken, and the first fault. Takes no memory.
     pub(crate) fn into_parts(self) -> (Vec<Finished<K>>, Option<LinkFault>)
-        ensures { (result.0 ≡ self.entry.finished) × (result.1 ≡ self.entry.fault) }
+        ensures { (result.0 ≡ self.finished) × (result.1 ≡ self.fault) }
     {
         let Left { finished, fault } = self;
         (finished, fault)

@@ -24,7 +24,7 @@ impl<A: Drop, C: Drop> RunPlan<A, C> {
 
     /// The openers of clients, those of ports, and the rules. Takes no memory.
     pub(crate) fn into_parts(self) -> (Vec<A>, Vec<C>, LinkRules)
-        ensures { (result.0 ≡ self.entry.clients) × (result.1 ≡ self.entry.ports) × (result.2 ≡ self.entry.rules) }
+        ensures { (result.0 ≡ self.clients) × (result.1 ≡ self.ports) × (result.2 ≡ self.rules) }
     {
         let RunPlan {
             clients,

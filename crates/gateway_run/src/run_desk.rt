@@ -29,7 +29,7 @@ impl<K: DeskName> RunDesk<K> {
 
     /// What the threads shared. Takes no memory.
     pub(crate) fn into_shared(self) -> Shared<K, RandomState>
-        ensures { result ≡ self.entry.shared }
+        ensures { result ≡ self.shared }
     {
         let RunDesk { shared } = self;
         shared
