@@ -179,6 +179,14 @@ impl<K: DeskName, S: BuildHasher + Drop> Desk<K, S> {
         self.side.take_waiting()
     }
 
+    /// The outlets of clients in which an event that isn't the client's own found no room since the last call: a bit
+    /// for each, by position.
+    pub(crate) fn take_pressed(&mut self) -> u64
+        ensures { self.new ≡ self.old }
+    {
+        self.side.take_pressed()
+    }
+
     /// Whether this event is none that only says that time passes and gives nothing (`Core::is_due`). Takes no memory.
     pub fn is_due(&self, alloc: Global, event: &Event) -> bool
         ensures { result ≡ event_due self.now.recorded.settings

@@ -14,7 +14,7 @@ use gate_events::{ClientNumber, Event};
 use host_log::HostFile;
 use std::alloc::{AllocError, Global};
 use std::hash::{BuildHasher, BuildHasherDefault, FoldHasher};
-use std::sync::atomic::{AtomicBool, Ordering};
+use std::sync::atomic::{AtomicBool, AtomicU64, Ordering};
 use std::sync::{Mutex, MutexGuard, Wait};
 use std::thread::Parker;
 use std::time::Duration;
@@ -52,6 +52,8 @@ pub struct Shared<K: DeskName, S: BuildHasher + Drop = BuildHasherDefault<FoldHa
     is_refused: AtomicBool,
     /// The journal's file failed: no more rounds are made, and nobody is told anything any more.
     is_lost: AtomicBool,
+    /// Bit i: in the rounds that were made last an event that isn't client i + 1's own waited for room in its outlet.
+    pressed: AtomicU64,
     bells: Vec<Parker>,
 }
 
@@ -63,6 +65,7 @@ impl<K: DeskName, S: BuildHasher + Drop> Drop for Shared<K, S> {
             wanted: _,
             is_refused: _,
             is_lost: _,
+            pressed: _,
             bells: _,
         } = self;
     }
@@ -85,6 +88,7 @@ impl<K: DeskName, S: BuildHasher + Drop> Shared<K, S> {
             wanted: AtomicBool::new(false),
             is_refused: AtomicBool::new(false),
             is_lost: AtomicBool::new(false),
+            pressed: AtomicU64::new(0),
             bells,
         }
     }
@@ -218,6 +222,7 @@ impl<K: DeskName, S: BuildHasher + Drop> Shared<K, S> {
     /// isn't to wait. None where it couldn't be kept: then nobody has it yet. Where memory was refused for it, it is
     /// tried again; where the file failed, never.
     fn told_by(&self, desk: &mut Desk<K, S>, alloc: Global) -> ToldOutlets {
+        self.note_pressed(desk.take_pressed());
         match desk.keep(alloc) {
             Ok(()) => ToldOutlets::of_bits(desk.take_rung()),
             Err(LogFault::NoMemory) => {
@@ -229,6 +234,18 @@ impl<K: DeskName, S: BuildHasher + Drop> Shared<K, S> {
                 ToldOutlets::of_bits(0)
             }
         }
+    }
+
+    /// Notes for which clients' outlets events of others waited.
+    fn note_pressed(&self, pressed: u64) {
+        if self.pressed.load(Ordering::SeqCst) != pressed {
+            self.pressed.store(pressed, Ordering::SeqCst);
+        }
+    }
+
+    /// Whether, in the rounds that were made last, an event that isn't its client's own waited for room in an outlet.
+    pub fn is_pressed(&self, outlet: usize) -> bool {
+        outlet < 64 && self.pressed.load(Ordering::SeqCst) >> outlet & 1 == 1
     }
 
     /// Whether the journal's file failed: no round is made any more, and nobody is told anything.
@@ -377,6 +394,7 @@ impl<K: DeskName, S: BuildHasher + Drop> Shared<K, S> {
             wanted: _,
             is_refused: _,
             is_lost: _,
+            pressed: _,
             bells,
         } = self;
         let mut desk = desk.into_inner();

@@ -6,6 +6,7 @@ use mathlib.Core.List.{IsPrefix}
 use Rattle.gate_law.specs.Events.{LinkOut}
 use Rattle.gate_events.specs.declared.event.Event.{Event}
 use Rattle.gate_events.specs.Sources.{events_from}
+use Rattle.desk_ends.specs.Sizes.{lists_size}
 use Rattle.desk_ends.specs.Rings.{NamedInlet, NamedOutlet, Done, put_at, took_at}
 
 -- a seat: every event that it gave, and those that it knows to lie in the ring
@@ -68,6 +69,15 @@ pub record WaySent (lists : List (List LinkOut)) (w v : WayState) : Type 0 where
   pub takes : w.free ≤ v.free + 1
   pub stages : v.stages ≡ w.stages
   pub waits : w.stages ≡ true → v.released ≡ w.released
+
+-- the lists that were sent have more than 4 MB together
+abbrev pub HasSentMany : WayState → Type 0
+HasSentMany w = 4_194_304 < lists_size w.sent
+
+-- A way knows of no room beside so many places that are kept free, or more bytes were sent than may lie there and it is
+-- asked for a client's own event, which leaves 1,088 places free.
+abbrev pub IsFull : ℕ → WayState → Type 0
+IsFull kept_free w = (w.free ≤ kept_free) ⊎ ((1_088 ≤ kept_free) × HasSentMany w)
 
 -- a way has room for so many lists, or is cut: then it needs none
 abbrev pub KnowsRoom : ℕ → WayState → Type 0

@@ -99,6 +99,14 @@ impl<K: DeskName> Inlet<K> {
         }
     }
 
+    /// Whether all that was put has come out of the queue, after a look.
+    pub fn is_drained(&mut self) -> bool
+        ensures same { (self.new.at ≡ self.old.at) × (self.new.source ≡ self.old.source)
+            × (self.new.put ≡ self.old.put) × (self.old.free ≤ self.new.free) }
+    {
+        self.producer.slots() == self.producer.capacity()
+    }
+
     /// Ends the inlet, and says what was put. `None` if the desk is gone.
     pub fn finish(self) -> Option<Finished<K>>
         ensures { IfSome result (λ f. f ≡ put_at self.at self.source self.put) }

@@ -2,9 +2,12 @@
 
 use crate::finished::{Finished, FinishedEnd};
 use crate::name::DeskName;
+use crate::size::size_of;
 use gate_events::{Recipient, Told};
 use rtrb::Consumer;
 use std::marker::{Model, PhantomData};
+use std::sync::Arc;
+use std::sync::atomic::{AtomicU64, Ordering};
 
 /// The consumer's end of a queue of output lists, all for one client or port. Contracts see its position, its
 /// recipient, what was taken, and what it knows to be in the queue.
@@ -12,6 +15,8 @@ pub struct Outlet<K: DeskName> {
     at: usize,
     to: Recipient,
     consumer: Consumer<Told>,
+    /// How many bytes the lists have that were taken, for the desk's end.
+    taken: Arc<AtomicU64>,
     of: PhantomData<K>,
 }
 
@@ -22,6 +27,7 @@ impl<K: DeskName> Drop for Outlet<K> {
             at: _,
             to: _,
             consumer: _,
+            taken: _,
             of: _,
         } = self;
     }
@@ -49,8 +55,13 @@ impl<K: DeskName> Outlet<K> {
     ghost use Rattle.rtrb.specs.Ring.{received, known_items};
     ghost use Rattle.desk_ends.specs.Rings.{NamedOutlet, consumer_ring, took_at};
 
-    /// The end of a queue through which nothing went yet, at its position.
-    pub fn new(at: usize, to: Recipient, consumer: Consumer<Told>) -> Outlet<K>
+    /// The end of a queue through which nothing went yet, at its position, with the count of the bytes that are taken.
+    pub fn new(
+        at: usize,
+        to: Recipient,
+        consumer: Consumer<Told>,
+        taken: Arc<AtomicU64>,
+    ) -> Outlet<K>
         requires named { slice_get K.outlets at ≡ Some (record { to = to; ring = consumer_ring consumer }) }
         requires empty { (received consumer ≡ []) × (known_items consumer ≡ []) }
         ensures { (result.at ≡ at) × (result.to ≡ to) × (result.took ≡ []) × (result.ahead ≡ []) }
@@ -59,6 +70,7 @@ impl<K: DeskName> Outlet<K> {
             at,
             to,
             consumer,
+            taken,
             of: PhantomData,
         }
     }
@@ -85,7 +97,13 @@ impl<K: DeskName> Outlet<K> {
         ensures none { IfNone result ((self.new.took ≡ self.old.took) × (self.new.ahead ≡ [])) }
         ensures succeeds { 0 < length self.old.ahead → IsSome result }
     {
-        self.consumer.pop().ok()
+        match self.consumer.pop() {
+            Ok(told) => {
+                self.taken.fetch_add(size_of(&told), Ordering::SeqCst);
+                Some(told)
+            }
+            Err(_) => None,
+        }
     }
 
     /// Ends the outlet, and says what was taken.
@@ -96,6 +114,7 @@ impl<K: DeskName> Outlet<K> {
             at,
             to,
             consumer,
+            taken: _,
             of: _,
         } = self;
         Finished::new(at, FinishedEnd::Took(to, consumer))

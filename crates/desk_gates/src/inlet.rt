@@ -71,6 +71,14 @@ impl<'p, 'a, W: Prompt + Drop, G: OutletEnd + Drop, K: DeskName, S: BuildHasher 
     }
 }
 
+/// Whether it is a ResendRequest (35=2).
+pub fn asks_again(event: &Event) -> bool {
+    match event {
+        Event::ClientMessage { frame, .. } => matches!(frame.fields().first(35), Some([b'2'])),
+        _ => false,
+    }
+}
+
 impl<'p, 'a, W: Prompt + Drop, G: OutletEnd + Drop, K: DeskName, S: BuildHasher + Drop> Gate
     for InletGate<'p, 'a, W, G, K, S> {
     ghost use Rattle.std.specs.Prelude.{[], map};
@@ -80,9 +88,13 @@ impl<'p, 'a, W: Prompt + Drop, G: OutletEnd + Drop, K: DeskName, S: BuildHasher 
 
     ghost was_taken = { λ g. [] };
 
-    /// Puts an event of its inlet's source. One of another source is given back, always.
+    /// Puts an event of its inlet's source. One of another source is given back, always; a ResendRequest as long as
+    /// anything that was put before isn't stepped, so that one answer at a time is made of many requests.
     fn put(&mut self, event: Event) -> Result<(), Event> {
         if !event.is_from(&self.inlet.source()) {
+            return Err(event);
+        }
+        if asks_again(&event) && !self.inlet.is_drained() {
             return Err(event);
         }
         self.inlet.put(event)?;

@@ -14,6 +14,6 @@ pub use desk::{
     open_desk,
 };
 pub use gate_workers::{Clock, Gate, Prompt};
-pub use inlet::InletGate;
+pub use inlet::{InletGate, asks_again};
 pub use outlet::OutletGate;
 pub use outlet_pen::{OutletEnd, OutletPen};

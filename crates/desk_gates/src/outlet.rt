@@ -3,15 +3,18 @@
 ghost use Rattle.desk_gates.specs.Since.{Earlier};
 
 use crate::outlet_pen::OutletEnd;
-use desk::{DeskName, Finished, Outlet, Recipient, Shared};
+use desk::{DeskName, Finished, Outlet, Recipient, Shared, Told, size_of};
 use gate_workers::{Event, Gate, LinkOut, ShortList};
 use std::alloc::{AllocError, Global};
 use std::hash::{BuildHasher, BuildHasherDefault, FoldHasher};
 use std::snapshot::Snapshot;
 use std::sync::Wait;
 
-/// With this many lists in an outlet's queue a client's messages wait.
+/// With this many lists in an outlet's queue a client's messages wait, or with as many times `WEIGHT` bytes.
 const FULL: u32 = 1_024;
+
+/// So many bytes count as a list.
+const WEIGHT: u64 = 4_096;
 
 /// The handle of a writer: takes output through an outlet. Once it has taken as many lists in a row as make a client's
 /// messages wait, it turns the desk, since one may wait for that room. Nothing is put through it.
@@ -80,7 +83,7 @@ impl<'a, K: DeskName, S: BuildHasher + Drop> Gate for OutletGate<'a, K, S> {
             }
             return None;
         };
-        self.in_a_row = self.in_a_row.saturating_add(1);
+        self.in_a_row = self.in_a_row.saturating_add(weight_of(&told));
         Some(told.into_outs())
     }
 
@@ -94,6 +97,17 @@ impl<'a, K: DeskName, S: BuildHasher + Drop> Gate for OutletGate<'a, K, S> {
         let turned = self.shared.turn(rt, alloc)?;
         Ok(turned.steps)
     }
+
+    /// Whether events of others wait for room in its outlet.
+    fn is_awaited(&self) -> bool {
+        self.shared.is_pressed(self.outlet.position())
+    }
+}
+
+/// As how many lists a list counts, by its bytes.
+fn weight_of(told: &Told) -> u32 {
+    let further = u32::try_from(size_of(told) / WEIGHT).unwrap_or(u32::MAX);
+    further.saturating_add(1)
 }
 
 impl<'a, K: DeskName, S: BuildHasher + Drop> OutletEnd for OutletGate<'a, K, S> {

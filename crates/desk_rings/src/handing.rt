@@ -65,6 +65,10 @@ fn outlet_at<K: DeskName>(at: usize, ring: ToldRing) -> Outlet<K>
     requires fresh { IsFreshLists ring }
     ensures { (result.at ≡ at) × (result.took ≡ []) }
 {
-    let ToldRing { to, consumer } = ring;
-    Outlet::new(at, to, consumer)
+    let ToldRing {
+        to,
+        consumer,
+        taken,
+    } = ring;
+    Outlet::new(at, to, consumer, taken)
 }

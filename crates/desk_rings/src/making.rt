@@ -8,6 +8,8 @@ use desk_ends::{Recipient, Seat, Source, Way};
 use rtrb::RingBuffer;
 use std::alloc::{AllocError, Global};
 use std::collections::VecDeque;
+use std::sync::Arc;
+use std::sync::atomic::AtomicU64;
 
 /// How many events an inlet's queue holds.
 pub const EVENTS: usize = 1_024;
@@ -46,8 +48,14 @@ pub fn told_rings(
     let mut rings = VecDeque::new(alloc);
     for to in recipients {
         let (producer, consumer) = RingBuffer::new(alloc, LISTS)?;
-        ways.push(Way::new(alloc, *to, producer))?;
-        rings.push_back(ToldRing { to: *to, consumer })?;
+        let counted = Arc::new(alloc, AtomicU64::new(0))?;
+        let taken = Arc::try_clone(&counted)?;
+        ways.push(Way::new(alloc, *to, producer, counted))?;
+        rings.push_back(ToldRing {
+            to: *to,
+            consumer,
+            taken,
+        })?;
     }
     Ok((ways, rings))
 }

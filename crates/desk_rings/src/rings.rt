@@ -2,6 +2,8 @@
 
 use desk_ends::{Event, Recipient, Source, Told};
 use rtrb::{Consumer, Producer};
+use std::sync::Arc;
+use std::sync::atomic::AtomicU64;
 
 /// The end by which a source's events are put.
 #[derive(Drop)]
@@ -15,4 +17,6 @@ pub struct EventRing {
 pub struct ToldRing {
     pub to: Recipient,
     pub consumer: Consumer<Told>,
+    /// How many bytes the lists have that are taken.
+    pub taken: Arc<AtomicU64>,
 }

@@ -9,7 +9,7 @@ use Rattle.gate_law.specs.Events.{LinkOut, is_the_number}
 use Rattle.gate_events.specs.declared.source.Recipient.{Recipient}
 use Rattle.gate_events.specs.declared.source.Recipient.TheVariants as recipients
 use Rattle.gate_events.specs.Sources.{unless_empty}
-use Rattle.desk_ends.specs.Seats.{SeatState, WayState, WayLooked, WaySent, WaysLooked}
+use Rattle.desk_ends.specs.Seats.{IsFull, SeatState, WayState, WayLooked, WaySent, WaysLooked}
 use Rattle.desk_ends.proofs.Places.{get-same, get-set-same}
 use Rattle.desk_side.specs.declared.said.Said.{Said}
 use Rattle.desk_side.specs.Said.{list_for}
@@ -40,21 +40,12 @@ way-stays w = record {
 }
 
 -- a way that isn't full has room, or is cut
-room-by : (kept : ℕ) (v : WayState) (full : Bool) → ((v.cut ≡ false) × (v.free ≤ kept) → full ≡ true) → full ≡ false
-    → (cut : Bool) → v.cut ≡ cut → (v.cut ≡ true) ⊎ (kept < v.free)
-room-by kept v full is isnt true cut = inl cut
-room-by kept v full is isnt false cut =
-    elim (leb_tells v.free kept) [
-      | inl q ↦ absurd (cc (is (cut, q.1), isnt))
-      | inr q ↦ inr (omega (arith, q.1))
-    ]
-
-pub has-room : (kept : ℕ) (ways : List WayState) (i d : ℕ) (v w : WayState) (full : Bool) → i < length ways → d ≡ i
+pub has-room : (kept : ℕ) (ways : List WayState) (i d : ℕ) (v w : WayState) → i < length ways → d ≡ i
     → slice_get (slice_set ways i v) d ≡ Some w
-    → ((v.cut ≡ false) × (v.free ≤ kept) → full ≡ true) → full ≡ false → (w.cut ≡ true) ⊎ (kept < w.free)
-has-room kept ways i d v w full inside place at is isnt =
+    → (v.cut ≡ true) ⊎ (kept < v.free) → (w.cut ≡ true) ⊎ (kept < w.free)
+has-room kept ways i d v w inside place at room =
     let same : v ≡ w = get-same (slice_set ways i v) i v w (get-set-same ways i v inside) (rw place at at) in
-    subst (λ (z : WayState). (z.cut ≡ true) ⊎ (kept < z.free)) same (room-by kept v full is isnt v.cut refl)
+    subst (λ (z : WayState). (z.cut ≡ true) ⊎ (kept < z.free)) same room
 
 keeps-room : (kept : ℕ) (w v : WayState) → WayLooked w v → (w.cut ≡ true) ⊎ (kept < w.free)
     → (v.cut ≡ true) ⊎ (kept < v.free)
@@ -173,7 +164,7 @@ module _ (kept clients ports : ℕ) (client port : Option ℕ) (new : List WaySt
       ]
 
   pub client-held : (d : ℕ) (w : WayState) → client_place clients client ≡ Some d → slice_get new d ≡ Some w
-      → w.cut ≡ false → w.free ≤ kept → LacksRoom kept client port new
+      → w.cut ≡ false → IsFull kept w → LacksRoom kept client port new
   client-held d w place at cut free =
       let was = client-place-was clients d client place in (
         d,
@@ -186,7 +177,7 @@ module _ (kept clients ports : ℕ) (client port : Option ℕ) (new : List WaySt
       )
 
   pub port-held : (d : ℕ) (w : WayState) → port_place clients ports port ≡ Some d → slice_get new d ≡ Some w
-      → w.cut ≡ false → w.free ≤ kept → LacksRoom kept client port new
+      → w.cut ≡ false → IsFull kept w → LacksRoom kept client port new
   port-held d w place at cut free =
       let was = port-place-was clients ports d port place in (
         d,

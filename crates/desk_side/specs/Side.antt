@@ -1,7 +1,7 @@
 -- What contracts see of the desk's side of its rings, and what its calls make of it. (Own.)
 use Rattle.std.specs.Prelude.{◌≡◌, ◌≢◌, ℕ, ◌+◌, ◌<◌, ◌≤◌, ◌⊎◌, true, false, Option, Some, slice_get, length, List}
 use Rattle.gate_events.specs.Sources.{unless_empty}
-use Rattle.desk_ends.specs.Seats.{KnowsRoom, SeatState, WayState, WaySent}
+use Rattle.desk_ends.specs.Seats.{IsFull, KnowsRoom, SeatState, WayState, WaySent}
 use Rattle.desk_side.specs.declared.said.Said.{Said}
 use Rattle.desk_side.specs.Said.{list_for}
 use Rattle.desk_side.specs.Places.{is_aimed, recipient_at, source_at}
@@ -41,7 +41,7 @@ HaveRoom kept_free client port ways = (d : ℕ) (w : WayState) → slice_get way
 abbrev pub AllKnowRoom : ℕ → List WayState → Type 0
 AllKnowRoom count ways = (d : ℕ) (w : WayState) → slice_get ways d ≡ Some w → KnowsRoom count w
 
--- one of them isn't cut and knows of none
+-- one of them isn't cut and is full
 abbrev pub LacksRoom : ℕ → Option ℕ → Option ℕ → List WayState → Type 0
 LacksRoom kept_free client port ways = (d : ℕ) × (w : WayState) × (slice_get ways d ≡ Some w)
-    × (is_aimed client port w.name.to ≡ true) × (w.cut ≡ false) × (w.free ≤ kept_free)
+    × (is_aimed client port w.name.to ≡ true) × (w.cut ≡ false) × IsFull kept_free w

@@ -5,9 +5,10 @@ ghost use Rattle.std.specs.Prelude.{◌≡◌};
 use crate::places::{client_number, place_of_client, place_of_port, port_number};
 use crate::said::Said;
 use crate::slots::{
-    is_empty_at, is_full_at, least_room, pop_at, release_each, send_at, stage_each,
+    is_empty_at, is_full_at, is_heavy_at, is_some_heavy, least_room, pop_at, release_each,
+    send_at, stage_each,
 };
-use desk_ends::{DeskName, Finished, Seat, Way};
+use desk_ends::{DeskName, Finished, KEPT_FROM_CLIENTS, Seat, Way};
 use gate_events::{Event, Source, Told};
 use std::alloc::AllocError;
 use std::marker::Model;
@@ -25,6 +26,10 @@ pub struct Side {
     rung: u128,
     /// Bit i: output queue i holds only output that may wait, since the last `take_waiting`.
     waiting: u128,
+    /// Bit i: an event of another source found no room in output queue i since the last `take_pressed`.
+    pressed: u64,
+    /// Whether some way may be heavy (`Way::is_heavy`).
+    is_heavy: bool,
 }
 
 // Not derived: then each way out drops it in one call (docs/DECISIONS.md, "Drops").
@@ -38,6 +43,8 @@ impl Drop for Side {
             roomy: _,
             rung: _,
             waiting: _,
+            pressed: _,
+            is_heavy: _,
         } = self;
     }
 }
@@ -76,6 +83,8 @@ impl Side {
             roomy: 0,
             rung: 0,
             waiting: 0,
+            pressed: 0,
+            is_heavy: false,
         }
     }
 
@@ -146,20 +155,25 @@ impl Side {
         let client = place_of_client(self.clients, client);
         let port = place_of_port(self.clients, self.ports, port);
         if is_full_at(&mut self.ways, client, kept_free) {
+            self.pressed |= pressed_bit(client, kept_free);
             return false;
         }
         !is_full_at(&mut self.ways, port, kept_free)
     }
 
     /// Whether lists for anybody would find room beside `kept_free` places. It looks into the queues only if it doesn't
-    /// know; then it knows for as many lists more as the fullest queue has room for. If one has no room, `has_room`
-    /// says it of those that a list is for.
+    /// know; then it knows for as many lists more as the fullest queue has room for. If one has no room, or too many
+    /// bytes may lie in one, `has_room` says it of those that a list is for.
     pub fn has_room_everywhere(&mut self, kept_free: usize) -> bool
         ensures seats { self.new.seats ≡ self.old.seats }
         ensures ways { WaysLooked self.old.ways self.new.ways }
         ensures counts { (self.new.clients ≡ self.old.clients) × (self.new.ports ≡ self.old.ports) }
         ensures room { result ≡ true → AllKnowRoom (kept_free + 1) self.new.ways }
     {
+        self.is_heavy = self.is_heavy && is_some_heavy(self.ways.as_slice());
+        if self.is_heavy && kept_free >= KEPT_FROM_CLIENTS {
+            return false;
+        }
         if self.roomy > kept_free {
             return true;
         }
@@ -190,6 +204,7 @@ impl Side {
         self.waiting |= waiting;
         send_at(&mut self.ways, client, client_told);
         send_at(&mut self.ways, port, port_told);
+        self.is_heavy = self.is_heavy || is_heavy_at(self.ways.as_slice(), client);
     }
 
     /// From now on output waits beside the queues until it is released. `AllocError` leaves some ways as they were: it
@@ -234,6 +249,16 @@ impl Side {
         waiting
     }
 
+    /// The output queues of clients in which an event that isn't the client's own found no room, since the last call: a
+    /// bit for each by position.
+    pub fn take_pressed(&mut self) -> u64
+        ensures { self.new ≡ self.old }
+    {
+        let pressed = self.pressed;
+        self.pressed = 0;
+        pressed
+    }
+
     /// Compares an end that has finished with the desk's own end of its queue: of an inlet's, all that is left is then
     /// known.
     pub fn compare<K: DeskName>(&mut self, finished: &mut Finished<K>)
@@ -247,6 +272,15 @@ impl Side {
         ensures told { IsBorneOut finished.old self.new.seats self.new.ways }
     {
         finished.compare(&mut self.seats, &mut self.ways);
+    }
+}
+
+/// The bit of a place in whose queue an event found no room beside so many places, if it isn't the client's own: those
+/// leave more places free.
+fn pressed_bit(place: Option<usize>, kept_free: usize) -> u64 {
+    match place {
+        Some(place) if place < 64 && kept_free < KEPT_FROM_CLIENTS => 1u64 << place,
+        _ => 0,
     }
 }
 

@@ -2,7 +2,8 @@
 
 ghost use Rattle.std.specs.Prelude.{◌≡◌, ◌<◌, ◌≤◌, ◌⊎◌, ℕ, true, false, Some, None, length, slice_get, IfSome, OnOk};
 ghost use Rattle.gate_events.specs.Sources.{unless_empty};
-ghost use Rattle.desk_ends.specs.Seats.{AllReleased, AllStage, SeatState, SeatGave, SeatLooked, WayState, WaySent};
+ghost use Rattle.desk_ends.specs.Seats.{AllReleased, AllStage, IsFull, SeatState, SeatGave, SeatLooked, WayState};
+ghost use Rattle.desk_ends.specs.Seats.{WaySent};
 ghost use Rattle.desk_ends.specs.Seats.{WaysLooked, WaysMayRelease, WaysMayStage};
 ghost use Rattle.desk_side.specs.Side.{AllKnowRoom, ChangesAt};
 
@@ -34,7 +35,7 @@ pub(crate) fn is_full_at(ways: &mut Vec<Way>, place: Option<usize>, kept_free: u
     requires inside { IfSome place (λ d. d < length ways.old.items) }
     ensures looked { WaysLooked ways.old.items ways.new.items }
     ensures full { result ≡ true → (d : ℕ) × (w : WayState) × (place ≡ Some d) × (slice_get ways.new.items d ≡ Some w)
-        × (w.cut ≡ false) × (w.free ≤ kept_free) }
+        × (w.cut ≡ false) × IsFull kept_free w }
     ensures room { result ≡ false → (d : ℕ) (w : WayState) → place ≡ Some d → slice_get ways.new.items d ≡ Some w
         → (w.cut ≡ true) ⊎ (kept_free < w.free) }
 {
@@ -42,6 +43,27 @@ pub(crate) fn is_full_at(ways: &mut Vec<Way>, place: Option<usize>, kept_free: u
         return false;
     };
     ways[place].is_full(kept_free)
+}
+
+/// Whether the way at this place, if there is one, is heavy.
+pub(crate) fn is_heavy_at(ways: &[Way], place: Option<usize>) -> bool {
+    match place {
+        Some(place) => match ways.get(place) {
+            Some(way) => way.is_heavy(),
+            None => false,
+        },
+        None => false,
+    }
+}
+
+/// Whether a way is heavy.
+pub(crate) fn is_some_heavy(ways: &[Way]) -> bool {
+    for way in ways {
+        if way.is_heavy() {
+            return true;
+        }
+    }
+    false
 }
 
 /// For how many lists each way that isn't cut has room at least, after a look into each queue.

@@ -3,6 +3,7 @@ use Rattle.std.proofs.Common.{◌≡◌, ◌≢◌, ℕ, ◌++◌, Bool, true, f
 use Rattle.std.proofs.Common.{refl, sym, ◌∙◌, ap, subst, append_assoc, append-nil}
 use Rattle.std.specs.Prelude.{◌==◌, if◌then◌else◌, is_some}
 use Rattle.std.proofs.KnownBytes.{Consumes-nil, Consumes-trans}
+use Rattle.std.specs.Io.KnownBytes.{Consumes}
 use Rattle.link_io.specs.Events as law
 use Rattle.link_io.specs.declared.link_fault.LinkFault.{LinkFault}
 use Rattle.link_io.specs.declared.link_fault.LinkFault.TheVariants.{ReadFailed, WriteFailed, Malformed, StepLimit}
@@ -84,6 +85,17 @@ module _ {D : Type 0} (made : D → List ℕ → List law.Event → Type 0) (are
     consumes = Consumes-trans l m n h.read s.read h.consumes s.consumes;
     puts = s.puts ∙ (ap (λ (w : List law.Event). w ++ s.put) h.puts ∙ append_assoc x h.put s.put);
     goes = goes_again made are_all at a b c h.read s.read h.put s.put h.goes s.goes;
+  }
+
+  -- a wait for bytes reads none
+  pub read_awaited : (a b : Reading D) (x y : List law.Event) (l m n : Option (List ℕ))
+      → HasRead made a b x y l m → Consumes m n [] → HasRead made a b x y l n
+  read_awaited a b x y l m n h none = record {
+    read = h.read;
+    put = h.put;
+    consumes = subst (Consumes l n) (append-nil h.read) (Consumes-trans l m n h.read [] h.consumes none);
+    puts = h.puts;
+    goes = h.goes;
   }
 
   -- a step and a turn

@@ -1,6 +1,7 @@
 //! The loop of a thread that reads a link.
 
 ghost use Rattle.std.specs.Prelude.{◌≡◌, ◌≤◌, ◌++◌, ◌∷◌, [], ℕ};
+ghost use Rattle.std.specs.Io.KnownBytes.{Consumes};
 ghost use Rattle.link_io.specs.Events as law;
 ghost use Rattle.link_io.specs.Seen.{event_seen};
 ghost use Rattle.link_io.specs.Decoding.{AreAllOfFrames, AreAllOfPackets, FramesOfLink, MadeOfFrames, MadeOfPackets};
@@ -22,7 +23,8 @@ use std::sync::Wait;
 /// that it is gone. It steps the core after each, and pauses if an event was given back or memory ran out.
 ///
 /// `Ok` at the end of the stream. `ReadFailed` if a read failed, `Malformed` if too long a frame is announced: the
-/// events before it are put. `StepLimit` at step number `steps`, 1 or more.
+/// events before it are put. `StepLimit` at step number `steps`, 1 or more, and where the gate gives an event back and
+/// says that the link is to be ended: then what was read behind that isn't put.
 pub fn client_reader<R: Wait, S: Read, G: Gate, C: Clock>(
     rt: &R,
     alloc: Global,
@@ -82,7 +84,8 @@ pub fn port_reader<R: Wait, S: Read, G: Gate, C: Clock>(
     end
 }
 
-/// Steps a reader until its link is over.
+/// Steps a reader until its link is over. Before a step it waits until there is something to read: a read into no place
+/// does so where the stream can. Then the moment of what is read is no earlier than its coming.
 fn read_all<R: Wait, D: Decoder, S: Read, G: Gate, C: Clock>(
     rt: &R,
     alloc: Global,
@@ -97,6 +100,7 @@ fn read_all<R: Wait, D: Decoder, S: Read, G: Gate, C: Clock>(
     ensures none_taken { G.was_taken gate.new ≡ G.was_taken gate.old }
 {
     let mut skips = Skips::new();
+    await_bytes(stream);
     for _ in rt.forever() {
         let at = clock.now_ms();
         let done = reader.step(alloc, stream, gate, at);
@@ -104,12 +108,17 @@ fn read_all<R: Wait, D: Decoder, S: Read, G: Gate, C: Clock>(
         skips.tell_growth(gate, reader.skipped());
         match done {
             Ok(progress) => match progress {
-                Progress::Read(_) => {}
+                Progress::Read(_) => await_bytes(stream),
                 Progress::Ended => {
                     skips.tell_all(gate, reader.skipped());
                     return Ok(());
                 }
-                Progress::Held => clock.pause(),
+                Progress::Held => {
+                    if gate.gives_up() {
+                        return Err(LinkFault::StepLimit);
+                    }
+                    clock.pause();
+                }
             },
             Err(fault) => {
                 if ends_link(fault) {
@@ -120,6 +129,14 @@ fn read_all<R: Wait, D: Decoder, S: Read, G: Gate, C: Clock>(
         }
     }
     unreachable!()
+}
+
+/// Waits until there is something to read: what is read then has a moment that isn't before it came. A failure is met
+/// again by the read.
+fn await_bytes<S: Read>(stream: &mut S)
+    ensures same { Consumes (S.remaining stream.old) (S.remaining stream.new) [] }
+{
+    let _ = stream.read(&mut []);
 }
 
 /// Puts an event as soon as there is room for it.

@@ -16,10 +16,13 @@ use Rattle.gateway_run.specs.contracts.run_opener.RunOpener as RunOpener
 use Rattle.gateway_run.specs.contracts.clock.RunClock as RunClock
 use Rattle.gateway_run.specs.contracts.clock.Watch as Watch
 use Rattle.gateway_run.specs.contracts.port_faults.PortLinks as PortLinks
+use Rattle.gateway_run.specs.contracts.line_state.LineState as LineState
+use Rattle.gateway_run.specs.contracts.line_state.LineStates as LineStates
 use Rattle.gateway_run.specs.contracts.memory_watch.MemoryWatch as MemoryWatch
 use Rattle.host_log.specs.contracts.later.LaterSync as LaterSync
 use Rattle.gateway_run.specs.contracts.order_watch.OrderWatch as OrderWatch
 use Rattle.gateway_run.specs.contracts.run_gate.RunGate as RunGate
+use Rattle.gateway_run.specs.contracts.sent_again.SentAgain as SentAgain
 use Rattle.gateway_run.specs.contracts.sync_timer.SyncTimer as SyncTimer
 use Rattle.gateway_run.specs.contracts.telling.Teller as Teller
 use Rattle.gateway_run.specs.contracts.telling_gate.TellingGate as TellingGate
@@ -30,6 +33,15 @@ later_send = search (sendable, crosses) depth 100 fits 500000
 timer_send : IsSend (SyncTimer.the_row LaterSync.the_row)
 timer_send = search (later_send, sendable, crosses) depth 100 fits 500000
 
+sent_again_sync : IsSync SentAgain.the_row
+sent_again_sync = search (sendable, crosses) depth 100 fits 500000
+
+line_sync : IsSync LineState.the_row
+line_sync = search (sent_again_sync, sendable, crosses) depth 100 fits 500000
+
+lines_sync : IsSync LineStates.the_row
+lines_sync = search (line_sync, sendable, crosses) depth 100 fits 500000
+
 module _ (a : NamedLft) (R : RattleType) (r : IsSync R) where
   pub teller_send : IsSend (Teller.the_row a R)
   teller_send = declared_send (Teller.the_type a R)
@@ -38,7 +50,10 @@ module _ (a : NamedLft) (R : RattleType) (r : IsSync R) where
   pub telling_send : (G : RattleType) → IsSend G → IsSend (TellingGate.the_row a G R)
   telling_send G g = declared_send (TellingGate.the_type a G R) (
     search (g, sendable) depth 40,
-    (search (sendable, crosses) depth 40, (search (teller_send, sendable) depth 40, tt)),
+    (
+      search (sendable, crosses) depth 40,
+      (search (teller_send, sendable) depth 40, (search (sent_again_sync, sendable, crosses) depth 40, tt)),
+    ),
   )
 
   pub memory_watch_send : IsSend (MemoryWatch.the_row a R)
@@ -131,7 +146,16 @@ module _ (a : NamedLft) (K R : RattleType) (k : DeskName.Ghosts K.Denot) (r : Is
           search (shared_sync, sendable) depth 40,
           (
             search (teller_send, r, sendable) depth 40,
-            (search sendable, (search (sendable, crosses) depth 40, tt)),
+            (
+              search sendable,
+              (
+                search (sendable, crosses) depth 40,
+                (
+                  search (lines_sync, sendable) depth 40,
+                  (search (sendable, crosses) depth 40, (search sendable, tt)),
+                ),
+              ),
+            ),
           ),
         ),
       ),

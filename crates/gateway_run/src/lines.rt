@@ -5,9 +5,11 @@ ghost use Rattle.gate_events.specs.declared.source.Source.TheVariants as sources
 
 use crate::clock::RunClock;
 use crate::counted::{ClientCounts, CountedLinks};
+use crate::line_state::LineStates;
 use crate::port_faults::PortLinks;
 use crate::run_gate::RunGate;
 use crate::run_opener::RunOpener;
+use crate::sent_again::SentAgain;
 use crate::sync_timer::SyncTimer;
 use crate::telling::{Teller, Whose};
 use crate::telling_gate::TellingGate;
@@ -106,6 +108,7 @@ pub(crate) fn ticks_of<'p, 'a, W: Prompt + Drop, G: OutletEnd + Drop, K, R>(
     counts: &'a ClientCounts,
     is_over: &'a AtomicBool,
     board: &'a StatusBoard,
+    lines: &'a LineStates,
     inlet: Inlet<K>,
     pens: &'p [OutletPen<W, G>],
     syncs: Option<SyncTimer<LaterSync>>,
@@ -118,8 +121,8 @@ where
     if inlet.source() == Source::Clock {
         let Count { clients, ports } = count;
         let own = InletGate::new(shared, pens, inlet);
-        let own = RunGate::new(rt, alloc, shared, own, None, None);
-        let gate = TellingGate::new(alloc, own, None);
+        let own = RunGate::new(rt, alloc, shared, own, None, None, lines);
+        let gate = TellingGate::new(alloc, own, None, None);
         return Some(Ticks {
             clients,
             ports,
@@ -211,14 +214,27 @@ pub(crate) fn pens_of<'a, W: Prompt + Drop, K: DeskName, R: Clock + Eprint>(
     shared: &'a Shared<K, RandomState>,
     outlets: Vec<Outlet<K>>,
     tells_frames: bool,
+    lines: &'a LineStates,
 ) -> Result<Vec<OutletPen<W, WritingGate<'a, K, R>>>, AllocError> {
     let mut pens = Vec::with_capacity(alloc, outlets.len())?;
     for outlet in outlets {
         let teller = teller_of(rt, tells_frames, &outlet.recipient());
-        let gate = TellingGate::new(alloc, OutletGate::new(shared, outlet), teller);
+        let counted = sent_again_to(lines, &outlet.recipient());
+        let gate = TellingGate::new(alloc, OutletGate::new(shared, outlet), teller, counted);
         pens.push(OutletPen::new(gate))?;
     }
     Ok(pens)
+}
+
+/// Where it is counted what is sent again to a client; of a port nowhere.
+fn sent_again_to<'a>(lines: &'a LineStates, whose: &Recipient) -> Option<&'a SentAgain> {
+    match whose {
+        Recipient::Client(client) => match lines.of_client(*client) {
+            Some(line) => Some(&line.sent_again),
+            None => None,
+        },
+        Recipient::Port(_) => None,
+    }
 }
 
 /// Who tells of what goes over the links of a client, where that is told of; of a port's nobody does.

@@ -127,7 +127,14 @@ where
     let mut journal = journal;
     let syncs = take_syncs(&mut journal);
     go_on(rt, alloc, &shared, &mut inlets, &mut outlets, journal)?;
-    let pens = pens_of::<A::Writer, K, R>(rt, alloc, &shared, outlets, plan.rules.tells_frames)?;
+    let pens = pens_of::<A::Writer, K, R>(
+        rt,
+        alloc,
+        &shared,
+        outlets,
+        plan.rules.tells_frames,
+        &states.lines,
+    )?;
     let mut left = serve_desk(
         rt,
         alloc,
@@ -218,10 +225,12 @@ where
     let counts = &states.clients;
     let clients = counted(alloc, clients, counts, is_over)?;
     let ports = left_alone(rt, alloc, shared, ports, states, rules, is_over)?;
-    let ends = ends_of(rt, alloc, shared, inlets, pens, clients, ports, rules)?;
+    let ends = ends_of(
+        rt, alloc, shared, inlets, pens, clients, ports, rules, &states.lines,
+    )?;
     let Ends { lines, .. } = ends;
     let ticks = ticks_of(
-        rt, alloc, shared, count, ports_of, counts, is_over, board, clock, pens, syncs,
+        rt, alloc, shared, count, ports_of, counts, is_over, board, &states.lines, clock, pens, syncs,
     );
     match serve(rt, alloc, lines, ticks) {
         Ok((lines, ticks)) => {

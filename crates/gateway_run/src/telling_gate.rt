@@ -1,6 +1,7 @@
 //! What is told of a client's link by its two gates, so that whoever runs the gateway sees why nothing goes through:
 //! frames that refuse a message, ask for messages again or end a session; and bytes that are no frame.
 
+use crate::sent_again::SentAgain;
 use crate::telling::Teller;
 use desk_gates::{Gate, OutletEnd};
 use fix_framing::{SOH, front_body};
@@ -17,16 +18,19 @@ pub(crate) struct TellingGate<'a, G, R> {
     gate: G,
     alloc: Global,
     teller: Option<Teller<'a, R>>,
+    /// Where it is counted what its client is sent again.
+    counted: Option<&'a SentAgain>,
 }
 
 impl<'a, G, R> TellingGate<'a, G, R> {
     ghost use Rattle.std.specs.Prelude.{◌≡◌};
 
-    /// This gate, with who tells, where somebody does. Takes no memory.
+    /// This gate, with who tells, where somebody does, and where it is counted what is sent again. Takes no memory.
     pub(crate) fn new(
         alloc: Global,
         gate: G,
         teller: Option<Teller<'a, R>>,
+        counted: Option<&'a SentAgain>,
     ) -> TellingGate<'a, G, R>
         ensures { result.gate ≡ gate }
     {
@@ -34,6 +38,7 @@ impl<'a, G, R> TellingGate<'a, G, R> {
             gate,
             alloc,
             teller,
+            counted,
         }
     }
 
@@ -55,7 +60,11 @@ impl<'a, G: Gate, R: Clock + Eprint> Gate for TellingGate<'a, G, R> {
     }
 
     fn take(&mut self) -> Option<ShortList<LinkOut>> {
-        self.gate.take()
+        let taken = self.gate.take();
+        if let (Some(outs), Some(counted)) = (&taken, self.counted) {
+            count_all(counted, outs);
+        }
+        taken
     }
 
     fn turn<W: Wait>(&mut self, rt: &W, alloc: Global) -> Result<u32, AllocError> {
@@ -64,6 +73,14 @@ impl<'a, G: Gate, R: Clock + Eprint> Gate for TellingGate<'a, G, R> {
 
     fn wake_writer(&self) {
         self.gate.wake_writer();
+    }
+
+    fn gives_up(&self) -> bool {
+        self.gate.gives_up()
+    }
+
+    fn is_awaited(&self) -> bool {
+        self.gate.is_awaited()
     }
 
     fn tell_skipped(&self, count: u64) {
@@ -84,6 +101,15 @@ impl<'a, G: OutletEnd, R: Clock + Eprint> OutletEnd for TellingGate<'a, G, R> {
 
     fn recipient(&self) -> Recipient {
         self.gate.recipient()
+    }
+}
+
+/// Counts what is sent again of these outputs.
+fn count_all(counted: &SentAgain, outs: &[LinkOut]) {
+    for out in outs {
+        if let LinkOut::Write { bytes, .. } = out {
+            counted.count(bytes.as_slice());
+        }
     }
 }
 

@@ -41,6 +41,18 @@ pub trait Gate {
     /// memory. By default it does nothing.
     fn wake_writer(&self) {}
 
+    /// Whether the link whose events this handle puts is to be ended, since one that was given back is never taken. By
+    /// default it isn't.
+    fn gives_up(&self) -> bool {
+        false
+    }
+
+    /// Whether others wait for room in the queue from which this handle takes: then a peer that takes nothing is given
+    /// up sooner. By default nobody does.
+    fn is_awaited(&self) -> bool {
+        false
+    }
+
     /// Reports how many bytes of a link were part of no message: at the first, whenever they have doubled, and at the
     /// end of the stream. By default it does nothing.
     fn tell_skipped(&self, _count: u64) {}

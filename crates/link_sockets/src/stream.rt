@@ -18,8 +18,9 @@ fn longest_prompt_write() -> Duration {
     Duration::from_millis(10)
 }
 
-/// How many prompt writes a write makes before it fails: five seconds of them.
-const MOST_TRIES: u32 = 500;
+/// How many prompt writes a write makes before it fails: half a second of them. A link's writer tries a write again
+/// (`BatchWriter::step`).
+const MOST_TRIES: u32 = 50;
 
 /// How often, and how long each time, a closer looks whether the peer has closed too.
 const LOOKS: u32 = 100;
@@ -33,10 +34,42 @@ fn look() -> Duration {
 pub struct SocketReader<'a> {
     stream: TcpStream,
     is_over: &'a AtomicBool,
+    /// How the wait for bytes failed: a socket tells its failure once.
+    failed: Option<ErrorKind>,
+}
+
+impl<'a> SocketReader<'a> {
+    /// Waits until there is something to read: bytes, the stream's end, or its failure.
+    fn wait(&mut self) {
+        let mut first = [0u8; 1];
+        for _ in 0..u64::MAX {
+            match self.stream.peek(&mut first) {
+                Ok(_) => return,
+                Err(error) => match error.kind() {
+                    ErrorKind::WouldBlock | ErrorKind::TimedOut | ErrorKind::Interrupted => {}
+                    kind => {
+                        self.failed = Some(kind);
+                        return;
+                    }
+                },
+            }
+            if self.is_over.load(Ordering::SeqCst) {
+                return;
+            }
+        }
+    }
 }
 
 impl<'a> Read for SocketReader<'a> {
+    /// A read into no place waits until there is something to read.
     fn read(&mut self, buf: &mut [u8]) -> io::Result<usize> {
+        if buf.is_empty() {
+            self.wait();
+            return Ok(0);
+        }
+        if let Some(kind) = self.failed {
+            return Err(io::Error::from(kind));
+        }
         for _ in 0..u64::MAX {
             match self.stream.read(buf) {
                 Ok(n) => return Ok(n),
@@ -53,7 +86,7 @@ impl<'a> Read for SocketReader<'a> {
     }
 }
 
-/// Writes a stream. A write fails if the peer reads nothing for five seconds, a prompt one if it reads nothing for ten
+/// Writes a stream. A write fails if the peer reads nothing for half a second, a prompt one if it reads nothing for ten
 /// milliseconds.
 #[derive(Drop)]
 pub struct SocketWriter {
@@ -88,7 +121,7 @@ impl Prompt for SocketWriter {
 }
 
 /// Shuts a stream down: for writing at once, so that the peer gets what was written; for reading as soon as the peer
-/// has closed too, or after a second.
+/// has closed too, or after a second. Cut it is shut down for both at once; the system sends what was written still.
 #[derive(Drop)]
 pub struct SocketCloser<'a, R> {
     rt: &'a R,
@@ -106,6 +139,10 @@ impl<'a, R: Clock> Closer for SocketCloser<'a, R> {
         }
         let _ = self.stream.shutdown(Shutdown::Both);
     }
+
+    fn cut(&mut self, _is_read: &AtomicBool) {
+        let _ = self.stream.shutdown(Shutdown::Both);
+    }
 }
 
 /// A link over this stream: what is written goes out at once (TCP_NODELAY). Its reader is at its end once `is_over` is
@@ -121,7 +158,11 @@ pub fn link_of<'a, R>(
     let written = stream.try_clone()?;
     let closed = stream.try_clone()?;
     Ok(Opened {
-        reader: SocketReader { stream, is_over },
+        reader: SocketReader {
+            stream,
+            is_over,
+            failed: None,
+        },
         writer: SocketWriter { stream: written },
         closer: SocketCloser { rt, stream: closed },
     })

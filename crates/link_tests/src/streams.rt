@@ -15,7 +15,8 @@ pub fn holds<R: Abort>(rt: &R, is_so: bool) {
     assert!(rt; is_so);
 }
 
-/// A reader that gives so many bytes a read of what it has, and fails at its read of this number, from 0.
+/// A reader that gives so many bytes a read of what it has, and fails at its read of this number, from 0. A read into no
+/// place isn't counted.
 #[derive(Drop)]
 pub struct Pieces<'a> {
     pub rest: &'a [u8],
@@ -25,6 +26,9 @@ pub struct Pieces<'a> {
 
 impl<'a> Read for Pieces<'a> {
     fn read(&mut self, buf: &mut [u8]) -> io::Result<usize> {
+        if buf.is_empty() {
+            return Ok(0);
+        }
         if self.reads_left == 0 {
             return Err(io::Error::from(ErrorKind::ConnectionReset));
         }

@@ -8,7 +8,11 @@ use Rattle.desk_rings.proofs.making.told_rings.Goals as goal
 
 pub loop-to-preserved : goal.loop-to-preserved
 loop-to-preserved c =
-    let ring : ToldRing = record { to = c.to-item.result; consumer = c.in_ok-producer.consumer } in
+    let ring : ToldRing = record {
+      to = c.to-item.result;
+      consumer = c.in_ok-producer.consumer;
+      taken = c.in_ok-taken.taken;
+    } in
     let pair = c.in_ok-producer.ensures.pair in
     let name : way_name c.new-in-loop-to.result ≡ outlet_name ring = cc (c.new-in-loop-to.ensures.name) in
     rw (c.in_ok-push.ensures.items, c.in_ok-push_back.ensures.items)

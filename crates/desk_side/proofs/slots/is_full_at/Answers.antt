@@ -19,7 +19,7 @@ returns-clause-looked c =
 pub returns-clause-full : goal.returns-clause-full
 returns-clause-full c so =
     let inside : c.in-Some.place < length c.args.ways.now.items = rw c.in-Some.is at c.requires.inside in
-    let full = c.is_full.ensures.value.0 so in (
+    let full = c.is_full.ensures.full so in (
       c.in-Some.place,
       c.is_full.new.self,
       c.in-Some.is,
@@ -32,5 +32,5 @@ returns-clause-full c so =
 pub returns-clause-room : goal.returns-clause-room
 returns-clause-room c isnt d w is at =
     let inside : c.in-Some.place < length c.args.ways.now.items = rw c.in-Some.is at c.requires.inside in
-    has-room c.args.kept_free c.args.ways.now.items c.in-Some.place d c.is_full.new.self w c.is_full.result inside
-    (cc (is, c.in-Some.is)) at c.is_full.ensures.value.1 isnt
+    has-room c.args.kept_free c.args.ways.now.items c.in-Some.place d c.is_full.new.self w inside
+    (cc (is, c.in-Some.is)) at (c.is_full.ensures.room isnt)

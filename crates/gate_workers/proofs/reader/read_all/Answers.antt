@@ -4,15 +4,17 @@ use Rattle.link_io.specs.declared.link_fault.LinkFault.{LinkFault}
 use Rattle.link_io.specs.declared.progress.Progress.{Progress}
 use Rattle.gate_workers.specs.ReadersWork.{HasReadAll}
 use Rattle.gate_workers.proofs.Run.{limit-goes_on, memory-goes_on, not_over-memory, ok-goes_on, over-not_memory}
-use Rattle.gate_workers.proofs.Run.{read_fault, read_none, read_step, read_to_end}
+use Rattle.gate_workers.proofs.Run.{read_awaited, read_fault, read_none, read_over, read_step, read_to_end}
+use Rattle.link_io.specs.declared.link_fault.LinkFault.TheVariants.{StepLimit}
 use Rattle.gate_workers.proofs.reader.read_all.Goals as goal
 
 pub loop-init : goal.loop-init
 loop-init g c = record {
   can_next = tt;
   is_finite = tt;
-  reads = read_none g.D.Decoder.made g.D.Decoder.are_all c.args.reader.now (g.G.Gate.was_put c.args.gate.now)
-      (g.S.Read.remaining c.args.stream.now);
+  reads = read_awaited g.D.Decoder.made g.D.Decoder.are_all _ _ _ _ _ _ _
+      (read_none g.D.Decoder.made g.D.Decoder.are_all c.args.reader.now (g.G.Gate.was_put c.args.gate.now)
+      (g.S.Read.remaining c.args.stream.now)) c.await_bytes.ensures.same;
   goes_on = c.requires.goes_on;
   source = refl;
   none_taken = refl;
@@ -25,9 +27,10 @@ loop-preserved-in-Read g c =
     record {
       can_next = tt;
       is_finite = tt;
-      reads = read_step g.D.Decoder.made g.D.Decoder.are_all c.now_ms-at.result
+      reads = read_awaited g.D.Decoder.made g.D.Decoder.are_all _ _ _ _ _ _ _
+          (read_step g.D.Decoder.made g.D.Decoder.are_all c.now_ms-at.result
           (Ok c.in-Ok.progress) c.args.reader.now c.loop.reader c.step-done.new.self _ _ _ _ _ _ _
-          c.loop.invariant.reads c.in-Ok.ensures.reads on c.turn.ensures.none_put;
+          c.loop.invariant.reads c.in-Ok.ensures.reads on c.turn.ensures.none_put) c.await_bytes-in-Read.ensures.same;
       goes_on = limit-goes_on {A = Progress} c.loop.reader.limit c.step-done.new.self.limit
           (Ok c.in-Ok.progress) refl on c.in-Ok.ensures.limit;
       source = c.step-done.ensures.source ∙ c.loop.invariant.source;
@@ -49,6 +52,21 @@ loop-preserved-in-Held g c =
       source = c.step-done.ensures.source ∙ c.loop.invariant.source;
       none_taken = c.turn.ensures.none_taken ∙ (c.step-done.ensures.none_taken ∙ c.loop.invariant.none_taken);
     }
+
+pub returns-then-gives_up-clause-reads : goal.returns-then-gives_up-clause-reads
+returns-then-gives_up-clause-reads g c =
+    let on = ok-goes_on c.loop.reader.limit (Ok c.in-Ok.progress) c.in-Ok.progress refl
+    (λ f q. (c.in-Ok.ensures.refused f q).0) in
+    subst (λ (v : List law.Event). HasReadAll g.D.Decoder.made g.D.Decoder.are_all
+    (λ d. g.D.Decoder.source d ≡ g.D.Decoder.source c.args.reader.now.decoder) (Err StepLimit) c.args.reader.now
+    (g.G.Gate.was_put c.args.gate.now) v (g.S.Read.remaining c.args.stream.now)
+    (g.S.Read.remaining c.step-done.new.stream))
+    (sym c.turn.ensures.none_put)
+    (read_over g.D.Decoder.made g.D.Decoder.are_all
+    (λ d. g.D.Decoder.source d ≡ g.D.Decoder.source c.args.reader.now.decoder) c.now_ms-at.result
+    (Ok c.in-Ok.progress) (Err StepLimit) c.args.reader.now c.loop.reader c.step-done.new.self _ _ _ _ _ _
+    c.loop.invariant.reads (c.in-Ok.ensures.reads on)
+    (c.step-done.ensures.source ∙ c.loop.invariant.source) (λ before events gave. tt))
 
 pub returns-in-Ended-clause-reads : goal.returns-in-Ended-clause-reads
 returns-in-Ended-clause-reads g c =
