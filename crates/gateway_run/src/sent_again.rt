@@ -10,7 +10,7 @@ use std::sync::atomic::{AtomicU64, Ordering};
 const TIMES: u64 = 10;
 
 /// So many messages may be sent again within an hour whatever is kept.
-const FLOOR: u64 = 20_000;
+const FLOOR: u64 = 50_000;
 
 /// An hour, in milliseconds.
 const HOUR: u64 = 3_600_000;
