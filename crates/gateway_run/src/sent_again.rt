@@ -82,6 +82,7 @@ impl SentAgain {
 }
 
 /// What is seen of the frames of one output.
+#[derive(Clone, Copy)]
 struct Seen {
     /// Their highest MsgSeqNum (34).
     highest: u64,
@@ -114,6 +115,7 @@ impl Seen {
 }
 
 /// What is looked at of a frame's header.
+#[derive(Clone, Copy)]
 struct Header {
     number: u64,
     is_again: bool,
