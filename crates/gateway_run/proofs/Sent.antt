@@ -16,6 +16,8 @@ use Rattle.gateway_run.specs.contracts.run_opener.RunOpener as RunOpener
 use Rattle.gateway_run.specs.contracts.clock.RunClock as RunClock
 use Rattle.gateway_run.specs.contracts.clock.Watch as Watch
 use Rattle.gateway_run.specs.contracts.port_faults.PortLinks as PortLinks
+use Rattle.gateway_run.specs.contracts.line_state.LineState as LineState
+use Rattle.gateway_run.specs.contracts.line_state.LineStates as LineStates
 use Rattle.gateway_run.specs.contracts.memory_watch.MemoryWatch as MemoryWatch
 use Rattle.host_log.specs.contracts.later.LaterSync as LaterSync
 use Rattle.gateway_run.specs.contracts.order_watch.OrderWatch as OrderWatch
@@ -29,6 +31,12 @@ later_send = search (sendable, crosses) depth 100 fits 500000
 
 timer_send : IsSend (SyncTimer.the_row LaterSync.the_row)
 timer_send = search (later_send, sendable, crosses) depth 100 fits 500000
+
+line_sync : IsSync LineState.the_row
+line_sync = search (sendable, crosses) depth 100 fits 500000
+
+lines_sync : IsSync LineStates.the_row
+lines_sync = search (line_sync, sendable, crosses) depth 100 fits 500000
 
 module _ (a : NamedLft) (R : RattleType) (r : IsSync R) where
   pub teller_send : IsSend (Teller.the_row a R)
@@ -131,7 +139,13 @@ module _ (a : NamedLft) (K R : RattleType) (k : DeskName.Ghosts K.Denot) (r : Is
           search (shared_sync, sendable) depth 40,
           (
             search (teller_send, r, sendable) depth 40,
-            (search sendable, (search (sendable, crosses) depth 40, tt)),
+            (
+              search sendable,
+              (
+                search (sendable, crosses) depth 40,
+                (search (lines_sync, sendable) depth 40, (search (sendable, crosses) depth 40, tt)),
+              ),
+            ),
           ),
         ),
       ),

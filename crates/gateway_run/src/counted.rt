@@ -1,5 +1,6 @@
 //! The links of clients, counted: who has to end with them knows when they are over.
 
+use crate::line_state::LineStates;
 use gate_serving::{LinkEnd, LinkFault, Opened, Opener};
 use std::alloc::{AllocError, Global};
 use std::sync::atomic::{AtomicBool, AtomicU8, AtomicU32, Ordering};
@@ -10,6 +11,7 @@ pub(crate) struct LinkStates {
     pub(crate) clients: ClientCounts,
     /// For each port the letter with which its last login was rejected; 0 where it wasn't.
     pub(crate) letters: Vec<AtomicU8>,
+    pub(crate) lines: LineStates,
 }
 
 impl LinkStates {
@@ -22,6 +24,7 @@ impl LinkStates {
         Ok(LinkStates {
             clients: ClientCounts::of(clients),
             letters,
+            lines: LineStates::of(alloc, clients as usize, ports)?,
         })
     }
 }

@@ -4,6 +4,7 @@ ghost use Rattle.std.specs.Prelude.{◌≡◌, All, true};
 ghost use Rattle.gateway_run.specs.Own.{source_of_peer};
 
 use crate::counted::CountedLinks;
+use crate::line_state::LineStates;
 use crate::lines::{RunLine, line_of, login_teller_of, teller_of};
 use crate::port_faults::PortLinks;
 use crate::run_gate::RunGate;
@@ -43,6 +44,7 @@ pub struct LinkRules {
 pub(crate) struct Ends<'p, 'a, W: Prompt + Drop, G: OutletEnd + Drop, A, C, K: DeskName, R> {
     alloc: Global,
     rules: LinkRules,
+    states: &'a LineStates,
     pub(crate) lines: Vec<RunLine<'p, 'a, W, G, A, C, K, R>>,
     ghost puts_own: { All (λ l. l.reader.gate.gate.gate.inlet.source ≡ source_of_peer l.peer) lines.items },
     ghost takes_own: { All (λ l. G.told l.writer.pen.now.first.value ≡ l.peer) lines.items },
@@ -59,10 +61,15 @@ impl<
     R: Wait + Clock + Eprint,
 > Ends<'p, 'a, W, G, A, C, K, R> {
     /// No line yet.
-    fn new(alloc: Global, rules: LinkRules) -> Ends<'p, 'a, W, G, A, C, K, R> {
+    fn new(
+        alloc: Global,
+        rules: LinkRules,
+        states: &'a LineStates,
+    ) -> Ends<'p, 'a, W, G, A, C, K, R> {
         Ends {
             alloc,
             rules,
+            states,
             lines: Vec::new(alloc),
         }
     }
@@ -83,7 +90,15 @@ impl<
             let teller = teller_of(rt, self.rules.tells_frames, &peer);
             let own = InletGate::new(shared, pens, inlet);
             let who = login_teller_of(rt, self.rules.tells_frames, &peer);
-            let own = RunGate::new(rt, self.alloc, shared, own, who, letter_of(&opener));
+            let own = RunGate::new(
+                rt,
+                self.alloc,
+                shared,
+                own,
+                who,
+                letter_of(&opener),
+                self.states,
+            );
             let gate = TellingGate::new(self.alloc, own, teller);
             let line = line_of(rt, shared, peer, opener, gate, at, pen);
             return self.keep(line);
@@ -157,10 +172,11 @@ pub(crate) fn ends_of<
     clients: Vec<CountedLinks<'a, A>>,
     ports: Vec<PortLinks<'a, C, K, R>>,
     rules: LinkRules,
+    states: &'a LineStates,
 ) -> Result<Ends<'p, 'a, W, G, A, C, K, R>, AllocError> {
     let mut accepting = clients.into_iter();
     let mut connecting = ports.into_iter();
-    let mut ends = Ends::new(alloc, rules);
+    let mut ends = Ends::new(alloc, rules, states);
     for (inlet, pen) in inlets.into_iter().zip(pens) {
         match inlet.source() {
             Source::Client(client) => {

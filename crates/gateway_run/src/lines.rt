@@ -5,6 +5,7 @@ ghost use Rattle.gate_events.specs.declared.source.Source.TheVariants as sources
 
 use crate::clock::RunClock;
 use crate::counted::{ClientCounts, CountedLinks};
+use crate::line_state::LineStates;
 use crate::port_faults::PortLinks;
 use crate::run_gate::RunGate;
 use crate::run_opener::RunOpener;
@@ -106,6 +107,7 @@ pub(crate) fn ticks_of<'p, 'a, W: Prompt + Drop, G: OutletEnd + Drop, K, R>(
     counts: &'a ClientCounts,
     is_over: &'a AtomicBool,
     board: &'a StatusBoard,
+    lines: &'a LineStates,
     inlet: Inlet<K>,
     pens: &'p [OutletPen<W, G>],
     syncs: Option<SyncTimer<LaterSync>>,
@@ -118,7 +120,7 @@ where
     if inlet.source() == Source::Clock {
         let Count { clients, ports } = count;
         let own = InletGate::new(shared, pens, inlet);
-        let own = RunGate::new(rt, alloc, shared, own, None, None);
+        let own = RunGate::new(rt, alloc, shared, own, None, None, lines);
         let gate = TellingGate::new(alloc, own, None);
         return Some(Ticks {
             clients,

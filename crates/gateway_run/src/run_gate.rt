@@ -1,6 +1,8 @@
-//! What is looked at before it goes to the desk: ticks that aren't due are left out, and it is told why a client's
-//! Logon isn't answered, and what a market says of a login.
+//! What is looked at before it goes to the desk: ticks that aren't due, or come before what was received, are left out,
+//! and it is told why a client's Logon isn't answered, and what a market says of a login.
 
+use crate::line_state::{LineState, LineStates};
+use crate::standstill::Standstill;
 use crate::telling::Teller;
 use desk_gates::{DeskName, Gate, Shared};
 use fix_fields::Fields;
@@ -17,7 +19,9 @@ use std::sync::atomic::{AtomicU8, Ordering};
 use std::time::Clock;
 
 /// A gate through which a tick goes only where a session's table has a row for it just now (`Core::is_due`). Any other
-/// tick is given back: it would give its link nothing, and would stand in the day's history for ever.
+/// tick is given back: it would give its link nothing, and would stand in the day's history for ever. So is one for a
+/// client or port whose reader has an event in its hands for which there is no room, and one that comes too soon behind
+/// a standstill of the process (`Standstill`): silence is judged behind all that was received.
 ///
 /// Where somebody tells, it is told why a link's first frame is no Logon that is answered (`Core::logon_fault`), and
 /// with which letter a market rejects a login.
@@ -32,6 +36,9 @@ pub(crate) struct RunGate<'a, G, K: DeskName, R> {
     is_first: bool,
     /// Where the letter of a login that a market rejects is kept.
     letter: Option<&'a AtomicU8>,
+    /// How the lines of all clients and ports stand.
+    lines: &'a LineStates,
+    standstill: Standstill,
 }
 
 impl<'a, G, K: DeskName, R> RunGate<'a, G, K, R> {
@@ -46,6 +53,7 @@ impl<'a, G, K: DeskName, R> RunGate<'a, G, K, R> {
         gate: G,
         teller: Option<Teller<'a, R>>,
         letter: Option<&'a AtomicU8>,
+        lines: &'a LineStates,
     ) -> RunGate<'a, G, K, R>
         ensures { result.gate ≡ gate }
     {
@@ -57,6 +65,8 @@ impl<'a, G, K: DeskName, R> RunGate<'a, G, K, R> {
             teller,
             is_first: true,
             letter,
+            lines,
+            standstill: Standstill::new(),
         }
     }
 
@@ -71,13 +81,30 @@ impl<'a, G, K: DeskName, R> RunGate<'a, G, K, R> {
 impl<'a, G, K: DeskName, R: Wait + Clock + Eprint> RunGate<'a, G, K, R> {
     ghost use Rattle.std.specs.Prelude.{◌≡◌};
 
-    /// Whether an event is a tick that gives nothing.
-    fn is_left_out(&self, event: &Event) -> bool {
+    /// Whether an event is a tick that gives nothing, or that comes before what was received.
+    fn is_left_out(&mut self, event: &Event) -> bool
+        ensures { self.new.gate ≡ self.old.gate }
+    {
+        let (line, at) = match event {
+            Event::ClientTick { client, at } => (self.lines.of_client(*client), *at),
+            Event::PortTick { port, at } => (self.lines.of_port(*port), *at),
+            _ => return false,
+        };
+        self.standstill.is_behind(at)
+            || is_held(line)
+            || !self.shared.is_due(self.rt, self.alloc, event)
+    }
+
+    /// The line that an event is read of; none of a tick.
+    fn line_of(&self, event: &Event) -> Option<&'a LineState> {
         match event {
-            Event::ClientTick { .. } | Event::PortTick { .. } => {
-                !self.shared.is_due(self.rt, self.alloc, event)
-            }
-            _ => false,
+            Event::ClientUp { client, .. }
+            | Event::ClientMessage { client, .. }
+            | Event::ClientGone { client, .. } => self.lines.of_client(*client),
+            Event::PortUp { port, .. }
+            | Event::PortPacket { port, .. }
+            | Event::PortGone { port, .. } => self.lines.of_port(*port),
+            Event::ClientTick { .. } | Event::PortTick { .. } => None,
         }
     }
 
@@ -129,13 +156,16 @@ impl<'a, G: Gate, K: DeskName, R: Wait + Clock + Eprint> Gate for RunGate<'a, G,
 
     ghost was_taken = { λ t. G.was_taken t.gate };
 
-    /// Puts an event; a tick only where it is due, once the desk could be had.
+    /// Puts an event; a tick only where it is due, once the desk could be had, and all that was received before is put.
     fn put(&mut self, event: Event) -> Result<(), Event> {
         if self.is_left_out(&event) {
             return Err(event);
         }
         self.look(&event);
-        self.gate.put(event)
+        let line = self.line_of(&event);
+        let put = self.gate.put(event);
+        note_held(line, put.is_err());
+        put
     }
 
     fn take(&mut self) -> Option<ShortList<LinkOut>> {
@@ -148,6 +178,21 @@ impl<'a, G: Gate, K: DeskName, R: Wait + Clock + Eprint> Gate for RunGate<'a, G,
 
     fn wake_writer(&self) {
         self.gate.wake_writer();
+    }
+}
+
+/// Whether the reader of this line, where there is one, has an event in its hands for which there is no room.
+fn is_held(line: Option<&LineState>) -> bool {
+    match line {
+        Some(line) => line.is_held(),
+        None => false,
+    }
+}
+
+/// Notes the same, where there is a line.
+fn note_held(line: Option<&LineState>, is_held: bool) {
+    if let Some(line) = line {
+        line.note_held(is_held);
     }
 }
 

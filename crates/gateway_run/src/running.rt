@@ -218,10 +218,31 @@ where
     let counts = &states.clients;
     let clients = counted(alloc, clients, counts, is_over)?;
     let ports = left_alone(rt, alloc, shared, ports, states, rules, is_over)?;
-    let ends = ends_of(rt, alloc, shared, inlets, pens, clients, ports, rules)?;
+    let ends = ends_of(
+        rt,
+        alloc,
+        shared,
+        inlets,
+        pens,
+        clients,
+        ports,
+        rules,
+        &states.lines,
+    )?;
     let Ends { lines, .. } = ends;
     let ticks = ticks_of(
-        rt, alloc, shared, count, ports_of, counts, is_over, board, clock, pens, syncs,
+        rt,
+        alloc,
+        shared,
+        count,
+        ports_of,
+        counts,
+        is_over,
+        board,
+        &states.lines,
+        clock,
+        pens,
+        syncs,
     );
     match serve(rt, alloc, lines, ticks) {
         Ok((lines, ticks)) => {
