@@ -134,7 +134,7 @@ class Server:
         self.wanted = number
         if self.may_cut() and self.random.random() < 0.05:
             self.counts["logins rejected"] += 1
-            self.write(ouch.packet(b"J", b"A"), now)
+            self.write(ouch.packet(b"J", b"S"), now)
             return
         if self.frozen and self.plan.hostile in hostile.BEHIND_A_LOGIN and number == len(self.market.history) + 1:
             self.write(hostile.login_reply(self.plan.hostile, SESSION, number), now)
