@@ -1,3 +1,2 @@
 mod Kept
 mod Sent
-mod Stopped

@@ -1,16 +1,14 @@
 //! The clocks of readers, and of the worker that has time pass.
 
-use crate::counted::ClientCounts;
-use crate::memory_watch::MemoryWatch;
 use crate::order_watch::OrderWatch;
-use crate::sync_timer::SyncTimer;
-use desk_gates::{DeskName, Shared};
 use gate_serving::Clock;
+use gateway_day::SyncTimer;
+use gateway_links::ClientCounts;
+use gateway_log::MemoryWatch;
 use host_log::LaterSync;
 use link_sockets::SystemClock;
-use status_board::StatusBoard;
-use std::alloc::Global;
-use std::hash::RandomState;
+use status_board::{Status, StatusBoard};
+use std::alloc::{AllocError, Global};
 use std::sync::Wait;
 use std::sync::atomic::{AtomicBool, Ordering};
 use std::time;
@@ -30,19 +28,40 @@ fn pause() -> Duration {
     Duration::from_millis(1)
 }
 
+/// What the worker that has time pass asks of the desk.
+pub(crate) trait TickDesk {
+    /// Rings the bells of writers for whom something waits, and makes the rounds that others left.
+    fn pass<R: Wait>(&self, rt: &R, alloc: Global);
+
+    /// Whether memory was refused for an event in the rounds that were made last.
+    fn is_memory_refused(&self) -> bool;
+
+    /// Whether the journal's file failed.
+    fn is_journal_lost(&self) -> bool;
+
+    /// How all clients and ports stand.
+    fn status<R: Wait>(&self, rt: &R, alloc: Global) -> Result<Status, AllocError>;
+}
+
 /// The system's time, which never goes back, and pauses of a millisecond. That of the worker that has time pass pauses
 /// between two rounds of ticks, and meanwhile has what may wait written, and rounds made that others left, each
 /// millisecond. Once a second it puts how all stand onto the board. It has a journal synced whose syncs are left for
 /// later, and watches the clients: it ends the day where they are left alone, where a thread could not be had, say.
-#[derive(Drop)]
-pub(crate) struct RunClock<'a, K: DeskName, R> {
+pub(crate) struct RunClock<'a, D, R> {
     clock: SystemClock<'a, R>,
-    watch: Option<Watch<'a, K, R>>,
+    watch: Option<Watch<'a, D, R>>,
 }
 
-impl<'a, K: DeskName, R: Wait + time::Clock + Eprint> RunClock<'a, K, R> {
+// Not derived: then each way out drops it in one call (docs/DECISIONS.md, "Drops").
+impl<'a, D, R> Drop for RunClock<'a, D, R> {
+    fn drop(self) {
+        let RunClock { clock: _, watch: _ } = self;
+    }
+}
+
+impl<'a, D: TickDesk, R: Wait + time::Clock + Eprint> RunClock<'a, D, R> {
     /// Of a reader. Takes no memory.
-    pub(crate) fn new(rt: &'a R) -> RunClock<'a, K, R> {
+    pub(crate) fn new(rt: &'a R) -> RunClock<'a, D, R> {
         RunClock {
             clock: SystemClock::new(rt, pause()),
             watch: None,
@@ -55,19 +74,19 @@ impl<'a, K: DeskName, R: Wait + time::Clock + Eprint> RunClock<'a, K, R> {
     pub(crate) fn watching(
         rt: &'a R,
         alloc: Global,
-        shared: &'a Shared<K, RandomState>,
+        desk: &'a D,
         counts: &'a ClientCounts,
         ports_of: &'a [u16],
         is_over: &'a AtomicBool,
         board: &'a StatusBoard,
         syncs: Option<SyncTimer<LaterSync>>,
-    ) -> RunClock<'a, K, R> {
+    ) -> RunClock<'a, D, R> {
         RunClock {
             clock: SystemClock::new(rt, pause()),
             watch: Some(Watch {
                 rt,
                 alloc,
-                shared,
+                desk,
                 counts,
                 is_over,
                 board,
@@ -81,7 +100,7 @@ impl<'a, K: DeskName, R: Wait + time::Clock + Eprint> RunClock<'a, K, R> {
     }
 }
 
-impl<'a, K: DeskName, R: Wait + time::Clock + Eprint> Clock for RunClock<'a, K, R> {
+impl<'a, D: TickDesk, R: Wait + time::Clock + Eprint> Clock for RunClock<'a, D, R> {
     ghost use Rattle.std.specs.Prelude.{None};
 
     ghost told = { λ _. None };
@@ -99,11 +118,10 @@ impl<'a, K: DeskName, R: Wait + time::Clock + Eprint> Clock for RunClock<'a, K, 
 }
 
 /// Who looks for what waits to be written or synced, whether clients are left alone, and whether memory is refused.
-#[derive(Drop)]
-struct Watch<'a, K: DeskName, R> {
+struct Watch<'a, D, R> {
     rt: &'a R,
     alloc: Global,
-    shared: &'a Shared<K, RandomState>,
+    desk: &'a D,
     counts: &'a ClientCounts,
     is_over: &'a AtomicBool,
     board: &'a StatusBoard,
@@ -117,14 +135,32 @@ struct Watch<'a, K: DeskName, R> {
     syncs: Option<SyncTimer<LaterSync>>,
 }
 
-impl<'a, K: DeskName, R: Wait + time::Clock + Eprint> Watch<'a, K, R> {
+// Not derived: then each way out drops it in one call (docs/DECISIONS.md, "Drops").
+impl<'a, D, R> Drop for Watch<'a, D, R> {
+    fn drop(self) {
+        let Watch {
+            rt: _,
+            alloc: _,
+            desk: _,
+            counts: _,
+            is_over: _,
+            board: _,
+            idle: _,
+            memory: _,
+            next_status: _,
+            orders: _,
+            syncs: _,
+        } = self;
+    }
+}
+
+impl<'a, D: TickDesk, R: Wait + time::Clock + Eprint> Watch<'a, D, R> {
     /// Pauses until the next round of ticks, and rings the bells of writers for whom something waits.
     fn pause(&mut self, clock: &mut SystemClock<'a, R>) {
         let end = clock.now_ms().saturating_add(u64::from(BETWEEN_TICKS));
         for _ in 0..BETWEEN_TICKS {
             clock.pause();
-            self.shared.ring_waiting(self.rt);
-            self.shared.turns_wanted(self.alloc);
+            self.desk.pass(self.rt, self.alloc);
             self.show(clock.now_ms());
             self.sync(clock.now_ms());
             if clock.now_ms() >= end {
@@ -132,8 +168,8 @@ impl<'a, K: DeskName, R: Wait + time::Clock + Eprint> Watch<'a, K, R> {
             }
         }
         self.memory
-            .look(self.shared.is_memory_refused(), clock.now_ms());
-        if self.shared.is_journal_lost() {
+            .look(self.desk.is_memory_refused(), clock.now_ms());
+        if self.desk.is_journal_lost() {
             self.is_over.store(true, Ordering::SeqCst);
         }
         self.look();
@@ -146,7 +182,7 @@ impl<'a, K: DeskName, R: Wait + time::Clock + Eprint> Watch<'a, K, R> {
         if now < self.next_status {
             return;
         }
-        let is_done = match self.shared.status(self.rt, self.alloc) {
+        let is_done = match self.desk.status(self.rt, self.alloc) {
             Ok(status) => {
                 self.orders.look(&status, now);
                 self.board.put(status, now)

@@ -3,9 +3,9 @@
 ghost use Rattle.std.specs.Prelude.{◌≡◌, ◌<◌, IfOk};
 ghost use Rattle.gateway_run.specs.Waiting as spec;
 
-use crate::telling::{Teller, Whose};
-use audit_lines::Settings;
 use fix_stamp::stamp;
+use gateway_day::Settings;
+use gateway_log::{Teller, Whose};
 use port_waits::{PortWait, due_since, orders_at, orders_wait, wait_after};
 use status_board::{PortRow, Status};
 use std::alloc::{AllocError, Global};

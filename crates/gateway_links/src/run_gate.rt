@@ -1,0 +1,174 @@
+//! What is looked at before it goes to the desk: ticks that aren't due are left out, and it is told why a client's
+//! Logon isn't answered, and what a market says of a login.
+
+use crate::link_desk::LinkDesk;
+use fix_fields::Fields;
+use gate_events::{ClientNumber, Event, LinkOut};
+use gate_serving::Gate;
+use gateway_log::{RefusedLogon, RejectedLogin, Teller};
+use short_list::ShortList;
+use soup_packets::Packet;
+use std::alloc::{AllocError, Global};
+use std::sync::Wait;
+use std::sync::atomic::{AtomicU8, Ordering};
+use std::time::Clock;
+
+/// A gate through which a tick goes only where a session's table has a row for it just now (`Core::is_due`). Any other
+/// tick is given back: it would give its link nothing, and would stand in the day's history for ever.
+///
+/// Where somebody tells, it is told why a link's first frame is no Logon that is answered (`Core::logon_fault`), and
+/// with which letter a market rejects a login.
+pub struct RunGate<'a, G, D, R> {
+    gate: G,
+    rt: &'a R,
+    alloc: Global,
+    desk: &'a D,
+    teller: Option<Teller<'a, R>>,
+    /// No frame of the link came yet.
+    is_first: bool,
+    /// Where the letter of a login that a market rejects is kept.
+    letter: Option<&'a AtomicU8>,
+}
+
+// Not derived: then each way out drops it in one call (docs/DECISIONS.md, "Drops").
+impl<'a, G: Drop, D, R> Drop for RunGate<'a, G, D, R> {
+    fn drop(self) {
+        let RunGate {
+            gate: _,
+            rt: _,
+            alloc: _,
+            desk: _,
+            teller: _,
+            is_first: _,
+            letter: _,
+        } = self;
+    }
+}
+
+impl<'a, G, D, R> RunGate<'a, G, D, R> {
+    ghost use Rattle.std.specs.Prelude.{◌≡◌};
+
+    /// This gate to the desk, with who tells, where somebody does, and where the letter of a login that a market
+    /// rejects is kept. Takes no memory.
+    pub fn new(
+        rt: &'a R,
+        alloc: Global,
+        desk: &'a D,
+        gate: G,
+        teller: Option<Teller<'a, R>>,
+        letter: Option<&'a AtomicU8>,
+    ) -> RunGate<'a, G, D, R>
+        ensures { result.gate ≡ gate }
+    {
+        RunGate {
+            gate,
+            rt,
+            alloc,
+            desk,
+            teller,
+            is_first: true,
+            letter,
+        }
+    }
+
+    /// The gate. Takes no memory.
+    pub fn into_gate(self) -> G
+        ensures { result ≡ self.entry.gate }
+    {
+        let RunGate {
+            gate,
+            rt: _,
+            alloc: _,
+            desk: _,
+            teller: _,
+            is_first: _,
+            letter: _,
+        } = self;
+        gate
+    }
+}
+
+impl<'a, G, D: LinkDesk, R: Wait + Clock + Eprint> RunGate<'a, G, D, R> {
+    ghost use Rattle.std.specs.Prelude.{◌≡◌};
+
+    /// Whether an event is a tick that gives nothing.
+    fn is_left_out(&self, event: &Event) -> bool {
+        match event {
+            Event::ClientTick { .. } | Event::PortTick { .. } => {
+                !self.desk.is_due(self.rt, self.alloc, event)
+            }
+            _ => false,
+        }
+    }
+
+    /// Tells of an event, where there is something to tell.
+    fn look(&mut self, event: &Event)
+        ensures { self.new.gate ≡ self.old.gate }
+    {
+        match event {
+            Event::ClientUp { .. } => self.is_first = true,
+            Event::ClientMessage { client, frame, .. } => {
+                self.look_at_frame(*client, frame.fields());
+            }
+            Event::PortPacket { packet, .. } => self.look_at_packet(packet),
+            _ => {}
+        }
+    }
+
+    /// Tells why a frame isn't answered, if it is the first of its link.
+    fn look_at_frame(&mut self, client: ClientNumber, frame: &Fields)
+        ensures { self.new.gate ≡ self.old.gate }
+    {
+        if !self.is_first {
+            return;
+        }
+        self.is_first = false;
+        if let Some(teller) = &self.teller {
+            if let Some(fault) = self.desk.logon_fault(self.rt, client, frame) {
+                teller.tell_of(&RefusedLogon { fault, frame });
+            }
+        }
+    }
+
+    /// Keeps the letter of a Login Rejected, and tells of it.
+    fn look_at_packet(&self, packet: &Packet) {
+        if packet.kind != b'J' {
+            return;
+        }
+        if let (Some(kept), [letter, ..]) = (self.letter, packet.payload.as_slice()) {
+            kept.store(*letter, Ordering::SeqCst);
+        }
+        if let Some(teller) = &self.teller {
+            teller.tell_of(&RejectedLogin(packet));
+        }
+    }
+}
+
+impl<'a, G: Gate, D: LinkDesk, R: Wait + Clock + Eprint> Gate for RunGate<'a, G, D, R> {
+    ghost was_put = { λ t. G.was_put t.gate };
+
+    ghost was_taken = { λ t. G.was_taken t.gate };
+
+    ghost gave_back = { λ _. Unit {0} };
+
+    /// Puts an event; a tick only where it is due, once the desk could be had.
+    fn put(&mut self, event: Event) -> Result<(), Event> {
+        if self.is_left_out(&event) {
+            return Err(event);
+        }
+        self.look(&event);
+        self.gate.put(event)
+    }
+
+    fn take(&mut self) -> Option<ShortList<LinkOut>> {
+        self.gate.take()
+    }
+
+    fn turn<W: Wait>(&mut self, rt: &W, alloc: Global) -> Result<u32, AllocError> {
+        self.gate.turn(rt, alloc)
+    }
+
+    fn wake_writer(&self) {
+        self.gate.wake_writer();
+    }
+}
