@@ -1,5 +1,6 @@
 pub mod Stopped
 pub mod Told
+pub mod Waiting
 pub use Rattle.gate_law.specs.Holds
 pub use Rattle.audit_lines.specs.gate_audit.gate_journal.Kept
 pub use Rattle.audit_lines.specs.gate_audit.Pairs

@@ -7,14 +7,11 @@ use Rattle.std.proofs.Crossing.{crosses}
 use Rattle.std.specs.declared.hash.BuildHasher as BuildHasher
 use Rattle.std.specs.declared.hash.Hasher as Hasher
 use Rattle.desk_gates.proofs.desk.Sent.{shared_sync}
-use Rattle.status_board.proofs.Sent.{board_sync}
-use Rattle.gateway_day.proofs.Sent.{timer_send}
-use Rattle.gateway_log.proofs.Sent.{memory_watch_send, teller_send}
+use Rattle.gateway_day.proofs.Sent.{clock_send}
+use Rattle.gateway_log.proofs.Sent.{teller_send}
 use Rattle.desk_gates.specs.desk.declared.DeskName as DeskName
 use Rattle.desk_gates.specs.contracts.bell.BellClock as BellClock
-use Rattle.gateway_run.specs.contracts.clock.RunClock as RunClock
-use Rattle.gateway_run.specs.contracts.clock.Watch as Watch
-use Rattle.gateway_run.specs.contracts.order_watch.OrderWatch as OrderWatch
+use Rattle.gateway_day.specs.contracts.clock.RunClock as RunClock
 use Rattle.gateway_run.specs.contracts.run_desk.RunDesk as RunDesk
 use Rattle.gateway_run.specs.contracts.telling_gate.TellingGate as TellingGate
 
@@ -27,45 +24,6 @@ module _ (a : NamedLft) (R : RattleType) (r : IsSync R) where
     search (g, sendable) depth 40,
     (search (sendable, crosses) depth 40, (search (teller_send, r, sendable) depth 40, tt)),
   )
-
-  pub order_watch_send : IsSend (OrderWatch.the_row a R)
-  order_watch_send = declared_send (OrderWatch.the_type a R)
-      (search (r, sendable) depth 40, (search (sendable, crosses) depth 40, (search (sendable, crosses) depth 40, tt)))
-
-module _ (a : NamedLft) (D R : RattleType) (d : IsSync D) (r : IsSync R) where
-  watch_send : IsSend (Watch.the_row a D R)
-  watch_send = declared_send (Watch.the_type a D R) (
-    search (r, sendable),
-    (
-      search (sendable, crosses) depth 40,
-      (
-        search (d, sendable) depth 40,
-        (
-          search (sendable, crosses) depth 40,
-          (
-            search (sendable, crosses) depth 40,
-            (
-              search (board_sync, sendable) depth 40,
-              (
-                search sendable,
-                (
-                  search (memory_watch_send a R r, sendable) depth 40,
-                  (
-                    search sendable,
-                    (search (order_watch_send a R r, sendable) depth 40, (search (timer_send, sendable) depth 40, tt)),
-                  ),
-                ),
-              ),
-            ),
-          ),
-        ),
-      ),
-    ),
-  )
-
-  clock_send : IsSend (RunClock.the_row a D R)
-  clock_send = declared_send (RunClock.the_type a D R)
-      (search (r, sendable) depth 40, (search (watch_send, sendable) depth 40, tt))
 
 module _ (a : NamedLft) (K R : RattleType) (k : DeskName.Ghosts K.Denot) (r : IsSync R) where
   pub run_clock_send : IsSend (RunClock.the_row a (RunDesk.the_row K k) R)

@@ -1,5 +1,4 @@
 pub mod Own
-pub mod Waiting
 pub use Rattle.gateway_day.specs.Holds
 pub use Rattle.gateway_day.specs.Kept
 pub use Rattle.gateway_day.specs.Pairs

@@ -3,11 +3,9 @@
 #![tactic(auto)]
 
 mod by_settings;
-mod clock;
 mod ends;
 mod left;
 mod lines;
-mod order_watch;
 mod plan;
 mod resuming;
 mod run_desk;

@@ -3,7 +3,6 @@
 ghost use Rattle.std.specs.Prelude.{◌≡◌, None, IfSome};
 ghost use Rattle.gate_events.specs.declared.source.Source.TheVariants as sources;
 
-use crate::clock::RunClock;
 use crate::run_desk::RunDesk;
 use crate::telling_gate::TellingGate;
 use desk_gates::{
@@ -11,7 +10,7 @@ use desk_gates::{
 };
 use gate_events::{Recipient, Source};
 use gate_serving::{Line, PenWorker, Ticks, Worker};
-use gateway_day::SyncTimer;
+use gateway_day::{RunClock, SyncTimer};
 use gateway_links::{ClientCounts, CountedLinks, PortLinks, RunGate, RunOpener};
 use gateway_log::{Teller, Whose};
 use host_log::LaterSync;

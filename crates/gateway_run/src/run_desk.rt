@@ -1,10 +1,10 @@
 //! The desk of a gateway that runs.
 
-use crate::clock::TickDesk;
 use desk_gates::{DeskName, Shared};
 use fix_fields::Fields;
 use fix_session::LogonFault;
 use gate_events::{ClientNumber, Event};
+use gateway_day::TickDesk;
 use gateway_links::LinkDesk;
 use gateway_log::NamedFault;
 use status_board::{PortState, Status, fault_name};

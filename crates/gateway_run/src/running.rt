@@ -7,13 +7,12 @@ ghost use Rattle.desk_gates.specs.desk.Settling.{AreSettled};
 
 use crate::left::Left;
 use crate::lines::Count;
-use crate::order_watch::ports_of_clients;
 use crate::plan::RunPlan;
 use crate::run_desk::RunDesk;
 use crate::serving::serve_opened;
 use desk_gates::{Closed, DeskName, Finished, Parts, Prompt, Shared, open_desk};
 use gate_serving::{Closer, Opener};
-use gateway_day::{Day, DayJournal, RunFault, Settings};
+use gateway_day::{Day, DayJournal, RunFault, Settings, ports_of_clients};
 use gateway_links::LinkStates;
 use status_board::StatusBoard;
 use std::alloc::Global;

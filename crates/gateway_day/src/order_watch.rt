@@ -1,10 +1,10 @@
 //! What is told of orders that wait at a port that isn't up.
 
 ghost use Rattle.std.specs.Prelude.{◌≡◌, ◌<◌, IfOk};
-ghost use Rattle.gateway_run.specs.Waiting as spec;
+ghost use Rattle.gateway_day.specs.Waiting as spec;
 
+use audit_lines::Settings;
 use fix_stamp::stamp;
-use gateway_day::Settings;
 use gateway_log::{Teller, Whose};
 use port_waits::{PortWait, due_since, orders_at, orders_wait, wait_after};
 use status_board::{PortRow, Status};
@@ -17,7 +17,7 @@ use std::{fmt, str};
 const PORTS: usize = 16;
 
 /// Of each client, in the order of the settings, the port that it is on, by its number from 1.
-pub(crate) fn ports_of_clients(alloc: Global, settings: &Settings) -> Result<Vec<u16>, AllocError>
+pub fn ports_of_clients(alloc: Global, settings: &Settings) -> Result<Vec<u16>, AllocError>
     ensures { IfOk result (λ ports. ports.items ≡ spec.ports_of_clients settings.now) }
 {
     let mut ports = Vec::new(alloc);

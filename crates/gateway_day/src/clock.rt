@@ -1,8 +1,8 @@
 //! The clocks of readers, and of the worker that has time pass.
 
 use crate::order_watch::OrderWatch;
+use crate::sync_timer::SyncTimer;
 use gate_serving::Clock;
-use gateway_day::SyncTimer;
 use gateway_links::ClientCounts;
 use gateway_log::MemoryWatch;
 use host_log::LaterSync;
@@ -29,7 +29,7 @@ fn pause() -> Duration {
 }
 
 /// What the worker that has time pass asks of the desk.
-pub(crate) trait TickDesk {
+pub trait TickDesk {
     /// Rings the bells of writers for whom something waits, and makes the rounds that others left.
     fn pass<R: Wait>(&self, rt: &R, alloc: Global);
 
@@ -47,7 +47,7 @@ pub(crate) trait TickDesk {
 /// between two rounds of ticks, and meanwhile has what may wait written, and rounds made that others left, each
 /// millisecond. Once a second it puts how all stand onto the board. It has a journal synced whose syncs are left for
 /// later, and watches the clients: it ends the day where they are left alone, where a thread could not be had, say.
-pub(crate) struct RunClock<'a, D, R> {
+pub struct RunClock<'a, D, R> {
     clock: SystemClock<'a, R>,
     watch: Option<Watch<'a, D, R>>,
 }
@@ -61,7 +61,7 @@ impl<'a, D, R> Drop for RunClock<'a, D, R> {
 
 impl<'a, D: TickDesk, R: Wait + time::Clock + Eprint> RunClock<'a, D, R> {
     /// Of a reader. Takes no memory.
-    pub(crate) fn new(rt: &'a R) -> RunClock<'a, D, R> {
+    pub fn new(rt: &'a R) -> RunClock<'a, D, R> {
         RunClock {
             clock: SystemClock::new(rt, pause()),
             watch: None,
@@ -71,7 +71,7 @@ impl<'a, D: TickDesk, R: Wait + time::Clock + Eprint> RunClock<'a, D, R> {
     /// Of the worker that has time pass for this desk: once these clients have been left alone for a hundred pauses
     /// `is_over` is set, also once the journal is lost, and how all stand goes onto this board. It is told of orders
     /// that wait at ports that aren't up; of each client `ports_of` has its port. Takes no memory.
-    pub(crate) fn watching(
+    pub fn watching(
         rt: &'a R,
         alloc: Global,
         desk: &'a D,
