@@ -23,7 +23,8 @@ use std::sync::Wait;
 /// that it is gone. It steps the core after each, and pauses if an event was given back or memory ran out.
 ///
 /// `Ok` at the end of the stream. `ReadFailed` if a read failed, `Malformed` if too long a frame is announced: the
-/// events before it are put. `StepLimit` at step number `steps`, 1 or more.
+/// events before it are put. `StepLimit` at step number `steps`, 1 or more, and where the gate gives an event back and
+/// then gives the link up (`Gate::gives_up`): that event and what was read behind it aren't put.
 pub fn client_reader<R: Wait, S: Read, G: Gate, C: Clock>(
     rt: &R,
     alloc: Global,
@@ -115,7 +116,12 @@ fn read_all<R: Wait, D: Decoder, S: Read, G: Gate, C: Clock>(
                     skips.tell_all(gate, reader.skipped());
                     return Ok(());
                 }
-                Progress::Held => clock.pause(),
+                Progress::Held => {
+                    if gate.gives_up() {
+                        return Err(LinkFault::StepLimit);
+                    }
+                    clock.pause();
+                }
             },
             Err(fault) => {
                 if ends_link(fault) {

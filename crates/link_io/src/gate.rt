@@ -45,6 +45,12 @@ pub trait Gate {
     /// memory. By default it does nothing.
     fn wake_writer(&self) {}
 
+    /// Whether the link whose events this handle puts is to be ended, since an event that was given back is never
+    /// taken. It is asked behind such an event. By default it isn't.
+    fn gives_up(&self) -> bool {
+        false
+    }
+
     /// Reports how many bytes of a link were part of no message: at the first, whenever they have doubled, and at the
     /// end of the stream. By default it does nothing.
     fn tell_skipped(&self, _count: u64) {}

@@ -1,10 +1,11 @@
 use Rattle.std.proofs.Common.{◌≡◌, ◌∙◌, refl, sym, ap, subst, List, Ok, Err}
 use Rattle.link_io.specs.Events as law
 use Rattle.link_io.specs.declared.link_fault.LinkFault.{LinkFault}
+use Rattle.link_io.specs.declared.link_fault.LinkFault.TheVariants.{StepLimit}
 use Rattle.link_io.specs.declared.progress.Progress.{Progress}
 use Rattle.gate_workers.specs.ReadersWork.{HasReadAll}
 use Rattle.gate_workers.proofs.Run.{limit-goes_on, memory-goes_on, not_over-memory, ok-goes_on, over-not_memory}
-use Rattle.gate_workers.proofs.Run.{read_awaited, read_fault, read_none, read_step, read_to_end}
+use Rattle.gate_workers.proofs.Run.{read_awaited, read_fault, read_none, read_over, read_step, read_to_end}
 use Rattle.gate_workers.proofs.reader.read_all.Goals as goal
 
 pub loop-init : goal.loop-init
@@ -53,6 +54,21 @@ loop-preserved-in-Held g c =
       source = c.step-done.ensures.source ∙ c.loop.invariant.source;
       none_taken = c.turn.ensures.none_taken ∙ (c.step-done.ensures.none_taken ∙ c.loop.invariant.none_taken);
     }
+
+pub returns-then-gives_up-clause-reads : goal.returns-then-gives_up-clause-reads
+returns-then-gives_up-clause-reads g c =
+    let on = ok-goes_on c.loop.reader.limit (Ok c.in-Ok.progress) c.in-Ok.progress refl
+    (λ f q. (c.in-Ok.ensures.refused f q).0) in
+    subst (λ (v : List law.Event). HasReadAll g.D.Decoder.made g.D.Decoder.are_all
+    (λ d. g.D.Decoder.source d ≡ g.D.Decoder.source c.args.reader.now.decoder) (Err StepLimit) c.args.reader.now
+    (g.G.Gate.was_put c.args.gate.now) v (g.C.Clock.told c.args.clock.now) (g.C.Clock.told c.now_ms-at.new.self)
+    (g.S.Read.remaining c.args.stream.now) (g.S.Read.remaining c.step-done.new.stream))
+    (sym c.turn.ensures.none_put)
+    (read_over g.D.Decoder.made g.D.Decoder.are_all
+    (λ d. g.D.Decoder.source d ≡ g.D.Decoder.source c.args.reader.now.decoder) c.now_ms-at.result
+    (Ok c.in-Ok.progress) (Err StepLimit) c.args.reader.now c.loop.reader c.step-done.new.self _ _ _ _ _ _ _ _ _
+    c.loop.invariant.reads c.now_ms-at.ensures.tells (c.in-Ok.ensures.reads on)
+    (c.step-done.ensures.source ∙ c.loop.invariant.source) (λ before events gave. tt))
 
 pub returns-in-Ended-clause-reads : goal.returns-in-Ended-clause-reads
 returns-in-Ended-clause-reads g c =
