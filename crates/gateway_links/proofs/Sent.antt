@@ -54,7 +54,10 @@ module _ (a : NamedLft) (D R : RattleType) (d : IsSync D) (r : IsSync R) where
           search (d, sendable) depth 40,
           (
             search (teller_send, r, sendable) depth 40,
-            (search sendable, (search (sendable, crosses) depth 40, tt)),
+            (
+              search sendable,
+              (search (sendable, crosses) depth 40, (search sendable, (search sendable, (search sendable, tt)))),
+            ),
           ),
         ),
       ),

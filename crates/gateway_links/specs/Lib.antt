@@ -1,1 +1,3 @@
 pub mod Openers
+pub mod Resends
+pub mod Standstills

@@ -6,8 +6,10 @@ mod counted;
 mod link_desk;
 mod login_pause;
 mod port_links;
+mod resends;
 mod run_gate;
 mod run_opener;
+mod standstill;
 
 pub use counted::{ClientCounts, CountedLinks, LinkStates};
 pub use link_desk::LinkDesk;

@@ -21,6 +21,9 @@ pub trait LinkDesk {
         frame: &Fields,
     ) -> Option<LogonFault>;
 
+    /// The highest MsgSeqNum (34) that a client was sent; `None` where memory is refused.
+    fn highest_sent<R: Wait>(&self, rt: &R, alloc: Global, client: ClientNumber) -> Option<u64>;
+
     /// Why the port of this number, from 1, is faulted; `None` of one that isn't.
     fn port_fault<R: Wait>(&self, rt: &R, port: u16) -> Option<NamedFault>;
 

@@ -1,7 +1,10 @@
-//! What is looked at before it goes to the desk: ticks that aren't due are left out, and it is told why a client's
-//! Logon isn't answered, and what a market says of a login.
+//! What is looked at before it goes to the desk: ticks that aren't due, or come too soon behind a standstill, are left
+//! out, a client that asks for too much again is given up, and it is told why a client's Logon isn't answered, and what
+//! a market says of a login.
 
 use crate::link_desk::LinkDesk;
+use crate::resends::{Resends, TooMuch, asked_for, range_of};
+use crate::standstill::Standstill;
 use fix_fields::Fields;
 use gate_events::{ClientNumber, Event, LinkOut};
 use gate_serving::Gate;
@@ -14,7 +17,11 @@ use std::sync::atomic::{AtomicU8, Ordering};
 use std::time::Clock;
 
 /// A gate through which a tick goes only where a session's table has a row for it just now (`Core::is_due`). Any other
-/// tick is given back: it would give its link nothing, and would stand in the day's history for ever.
+/// tick is given back: it would give its link nothing, and would stand in the day's history for ever. So is one that
+/// comes too soon behind a standstill of the process (`Standstill`): silence is judged behind what was received.
+///
+/// A ResendRequest by which a client asks for too much again within an hour (`Resends`) is given back, and then its link
+/// is given up (`gives_up`): each answer would lie in memory, and stand in the day's history.
 ///
 /// Where somebody tells, it is told why a link's first frame is no Logon that is answered (`Core::logon_fault`), and
 /// with which letter a market rejects a login.
@@ -28,6 +35,10 @@ pub struct RunGate<'a, G, D, R> {
     is_first: bool,
     /// Where the letter of a login that a market rejects is kept.
     letter: Option<&'a AtomicU8>,
+    standstill: Standstill,
+    resends: Resends,
+    /// Its client asked for too much again on this link.
+    is_given_up: bool,
 }
 
 // Not derived: then each way out drops it in one call (docs/DECISIONS.md, "Drops").
@@ -41,6 +52,9 @@ impl<'a, G: Drop, D, R> Drop for RunGate<'a, G, D, R> {
             teller: _,
             is_first: _,
             letter: _,
+            standstill: _,
+            resends: _,
+            is_given_up: _,
         } = self;
     }
 }
@@ -68,6 +82,9 @@ impl<'a, G, D, R> RunGate<'a, G, D, R> {
             teller,
             is_first: true,
             letter,
+            standstill: Standstill::new(),
+            resends: Resends::new(),
+            is_given_up: false,
         }
     }
 
@@ -83,6 +100,9 @@ impl<'a, G, D, R> RunGate<'a, G, D, R> {
             teller: _,
             is_first: _,
             letter: _,
+            standstill: _,
+            resends: _,
+            is_given_up: _,
         } = self;
         gate
     }
@@ -91,13 +111,55 @@ impl<'a, G, D, R> RunGate<'a, G, D, R> {
 impl<'a, G, D: LinkDesk, R: Wait + Clock + Eprint> RunGate<'a, G, D, R> {
     ghost use Rattle.std.specs.Prelude.{◌≡◌};
 
-    /// Whether an event is a tick that gives nothing.
-    fn is_left_out(&self, event: &Event) -> bool {
-        match event {
-            Event::ClientTick { .. } | Event::PortTick { .. } => {
-                !self.desk.is_due(self.rt, self.alloc, event)
-            }
-            _ => false,
+    /// Whether an event is a tick that comes too soon behind a standstill, or gives nothing.
+    fn is_left_out(&mut self, event: &Event) -> bool
+        ensures { self.new.gate ≡ self.old.gate }
+    {
+        let at = match event {
+            Event::ClientTick { at, .. } | Event::PortTick { at, .. } => *at,
+            _ => return false,
+        };
+        self.standstill = self.standstill.after(at);
+        !self.standstill.lets_through() || !self.desk.is_due(self.rt, self.alloc, event)
+    }
+
+    /// What its client has asked for again with this event; `None` where that is too much: then the link is given up,
+    /// which is told.
+    fn resends_with(&mut self, event: &Event) -> Option<Resends>
+        ensures { self.new.gate ≡ self.old.gate }
+    {
+        let resends = self.resends;
+        let (client, frame, at) = match event {
+            Event::ClientMessage {
+                client,
+                frame,
+                at,
+                ..
+            } => (*client, frame.fields(), *at),
+            _ => return Some(resends),
+        };
+        let Some((begin, end)) = range_of(frame) else {
+            return Some(resends);
+        };
+        let Some(highest) = self.desk.highest_sent(self.rt, self.alloc, client) else {
+            return Some(resends);
+        };
+        let resends = resends.with(asked_for(begin, end, highest), at);
+        if !resends.is_too_much(highest) {
+            return Some(resends);
+        }
+        let messages = resends.messages;
+        self.give_up(&TooMuch { messages, highest });
+        None
+    }
+
+    /// Gives its link up, and tells why.
+    fn give_up(&mut self, too_much: &TooMuch)
+        ensures { self.new.gate ≡ self.old.gate }
+    {
+        self.is_given_up = true;
+        if let Some(teller) = &self.teller {
+            teller.tell_of(too_much);
         }
     }
 
@@ -106,7 +168,10 @@ impl<'a, G, D: LinkDesk, R: Wait + Clock + Eprint> RunGate<'a, G, D, R> {
         ensures { self.new.gate ≡ self.old.gate }
     {
         match event {
-            Event::ClientUp { .. } => self.is_first = true,
+            Event::ClientUp { .. } => {
+                self.is_first = true;
+                self.is_given_up = false;
+            }
             Event::ClientMessage { client, frame, .. } => {
                 self.look_at_frame(*client, frame.fields());
             }
@@ -151,13 +216,19 @@ impl<'a, G: Gate, D: LinkDesk, R: Wait + Clock + Eprint> Gate for RunGate<'a, G,
 
     ghost gave_back = { λ _. Unit {0} };
 
-    /// Puts an event; a tick only where it is due, once the desk could be had.
+    /// Puts an event; a tick only where it is due, once the desk could be had, and none by which a client asks for too
+    /// much again.
     fn put(&mut self, event: Event) -> Result<(), Event> {
         if self.is_left_out(&event) {
             return Err(event);
         }
+        let Some(resends) = self.resends_with(&event) else {
+            return Err(event);
+        };
         self.look(&event);
-        self.gate.put(event)
+        self.gate.put(event)?;
+        self.resends = resends;
+        Ok(())
     }
 
     fn take(&mut self) -> Option<ShortList<LinkOut>> {
@@ -170,5 +241,9 @@ impl<'a, G: Gate, D: LinkDesk, R: Wait + Clock + Eprint> Gate for RunGate<'a, G,
 
     fn wake_writer(&self) {
         self.gate.wake_writer();
+    }
+
+    fn gives_up(&self) -> bool {
+        self.is_given_up
     }
 }

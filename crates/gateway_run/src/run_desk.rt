@@ -50,6 +50,13 @@ impl<K: DeskName> LinkDesk for RunDesk<K> {
         self.shared.logon_fault(rt, client, frame)
     }
 
+    fn highest_sent<R: Wait>(&self, rt: &R, alloc: Global, client: ClientNumber) -> Option<u64> {
+        match self.shared.status(rt, alloc) {
+            Ok(status) => Some(highest_of(&status, client)),
+            Err(_) => None,
+        }
+    }
+
     fn port_fault<R: Wait>(&self, rt: &R, port: u16) -> Option<NamedFault> {
         match self.shared.port_fault(rt, port) {
             Some(fault) => Some(NamedFault {
@@ -65,6 +72,17 @@ impl<K: DeskName> LinkDesk for RunDesk<K> {
             Ok(status) => is_ended(&status, port),
             Err(_) => false,
         }
+    }
+}
+
+/// The highest MsgSeqNum (34) that a client was sent.
+fn highest_of(status: &Status, client: ClientNumber) -> u64 {
+    match status
+        .clients()
+        .get(usize::from(client.number()).saturating_sub(1))
+    {
+        Some(row) => row.next_out.saturating_sub(1),
+        None => 0,
     }
 }
 

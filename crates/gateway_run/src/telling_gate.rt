@@ -82,6 +82,10 @@ impl<'a, G: Gate, R: Clock + Eprint> Gate for TellingGate<'a, G, R> {
         self.gate.wake_writer();
     }
 
+    fn gives_up(&self) -> bool {
+        self.gate.gives_up()
+    }
+
     fn tell_skipped(&self, count: u64) {
         if let Some(teller) = &self.teller {
             teller.tell_skipped(count);
