@@ -89,7 +89,7 @@ def main():
             gateway.kill()
         told = errors.read_text()
         print(told, end="")
-    return 1 if silent > 3.0 or "C1 link fault 2" not in told else 0
+    return 1 if silent > 3.0 or "C1 link fault " not in told else 0
 
 
 if __name__ == "__main__":

@@ -16,7 +16,9 @@ stood_still s at = not (s.last == 0) && nat_lt (later (max s.last s.until) 1000)
 
 -- then for a second none goes through
 abbrev pub after : Standstill → ℕ → Standstill
-after s at = if stood_still s at then record { last = at; until = later at 1000 } else record { last = at; until = s.until }
+after s at = if stood_still s at
+    then record { last = at; until = later at 1000 }
+    else record { last = at; until = s.until }
 
 abbrev pub lets_through : Standstill → Bool
 lets_through s = nat_le s.until s.last
@@ -35,7 +37,8 @@ each_tenth_of_a_second : through begun (5000 ∷ 5100 ∷ 5200 ∷ 6200 ∷ []) 
 each_tenth_of_a_second = refl
 
 none_for_a_second_behind_a_standstill :
-    through begun (5000 ∷ 6001 ∷ 6101 ∷ 7000 ∷ 7001 ∷ 7101 ∷ []) ≡ true ∷ false ∷ false ∷ false ∷ true ∷ true ∷ []
+    through begun (5000 ∷ 6001 ∷ 6101 ∷ 7000 ∷ 7001 ∷ 7101 ∷ [])
+    ≡ true ∷ false ∷ false ∷ false ∷ true ∷ true ∷ []
 none_for_a_second_behind_a_standstill = refl
 
 a_slow_machine_has_every_other_tick :

@@ -8,7 +8,8 @@ use fix_fields::Fields;
 use std::fmt;
 use std::fmt::{Display, Formatter};
 
-/// All that a client was sent may be asked for so often within an hour: an engine that recovers asks for it once a link.
+/// All that a client was sent may be asked for so often within an hour: an engine that recovers asks for it once a
+/// link.
 const TIMES: u128 = 10;
 
 /// So many messages may be asked for within an hour, whatever was sent.

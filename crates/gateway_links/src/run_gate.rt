@@ -20,8 +20,8 @@ use std::time::Clock;
 /// tick is given back: it would give its link nothing, and would stand in the day's history for ever. So is one that
 /// comes too soon behind a standstill of the process (`Standstill`): silence is judged behind what was received.
 ///
-/// A ResendRequest by which a client asks for too much again within an hour (`Resends`) is given back, and then its link
-/// is given up (`gives_up`): each answer would lie in memory, and stand in the day's history.
+/// A ResendRequest by which a client asks for too much again within an hour (`Resends`) is given back, and then its
+/// link is given up (`gives_up`): each answer would lie in memory, and stand in the day's history.
 ///
 /// Where somebody tells, it is told why a link's first frame is no Logon that is answered (`Core::logon_fault`), and
 /// with which letter a market rejects a login.
