@@ -14,7 +14,7 @@ from .command_line import STEPS_OF_COMMANDS
 from .counted_days import STEPS_OF_COUNTED_DAYS
 from .crowd import STEPS_OF_CROWDS
 from .links import STEPS_OF_LINKS
-from .stage import Addresses, Stage
+from .stage import Addresses, Stage, Wrong
 from .telling import STEPS_OF_TELLING
 
 # the longest first, so that the others go on beside them
@@ -24,19 +24,20 @@ AT_ONCE = 6
 
 def made(step, program, addresses):
     """Makes a step: what to print of it, and whether it is right."""
-    begin = time.monotonic()
+    begin, wrong, told = time.monotonic(), None, []
     with tempfile.TemporaryDirectory() as folder:
         stage = Stage(program, addresses, folder)
         try:
             step(stage)
-        except Exception:  # whatever ends a step is one more thing that is wrong
-            stage.wrong.append(traceback.format_exc().strip())
-        told = stage.told() if stage.wrong else []
+        except Wrong as it:
+            wrong, told = str(it), stage.told()
+        except Exception:  # whatever else ends a step is wrong too
+            wrong, told = traceback.format_exc().strip(), stage.told()
         stage.clear()
     what = " ".join(step.__doc__.split())
-    lines = [f"{'WRONG' if stage.wrong else 'right'}  {step.__name__} ({time.monotonic() - begin:.1f} s): {what}"]
-    lines += [f"       {it}" for it in stage.wrong] + [f"       told: {it}" for it in told]
-    return lines, not stage.wrong
+    lines = [f"{'WRONG' if wrong else 'right'}  {step.__name__} ({time.monotonic() - begin:.1f} s): {what}"]
+    lines += [f"       {wrong}"] * bool(wrong) + [f"       told: {it}" for it in told]
+    return lines, not wrong
 
 
 def main():

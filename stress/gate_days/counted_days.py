@@ -86,7 +86,7 @@ def lost_links(stage):
         stage.holds(f"{client.name} is logged out", client.log_out() is not None)
         client.ending()
     stage.same("status and audit", (0, AUDIT), (gateway.status(), gateway.output.read_text()))
-    stage.same("links of the other port", (1, ["end"]), (len(second.came), second.ends))
+    stage.holds("the other port's one link ends", holds_within(lambda: second.ends == ["end"]))
     stage.same("the journal's audit", (0, AUDIT, ""),
                stage.asked("audit", "--journal", journal, "--settings", str(stage.settings)))
 

@@ -1,43 +1,56 @@
 """Many clients and ports at once, and clients whose rings are full."""
 import select
+import socket
 import threading
 import time
 
 from .links import seconds_of
 from .peers import PATIENCE, holds_within
+from .stage import since
 
-ORDERS = 3
-# Test Requests of a client that doesn't read, and the length of what each brings back
-REQUESTS = 14_000
-LENGTH = 1_000
+ROUNDS = 2
+# what a client that doesn't read sends at most, and what each Test Request brings back
+MOST, FILL = 60_000, b"y" * 1_000
 
 
 def all_trade(stage):
-    """64 clients on 16 ports trade at once: each port is asked by its clients alone, and each client hears all"""
+    """64 clients on 16 ports trade at once and one by one: each port is asked by its clients alone, and each client hears
+    all, promptly; then time passes for each"""
     clients, addresses = stage.set_up(64, 16)
     markets = [stage.market(it) for it in addresses]
     gateway = stage.gateway("serve")
     for client in clients:
         stage.holds(f"{client.name} is logged on", client.connect().log_on() is not None)
     stage.holds("all ports are up", holds_within(lambda: all(len(it.came) == 1 for it in markets)))
-    spent = []
-    for turn in range(ORDERS):
-        begin = time.monotonic()
-        for number, client in enumerate(clients, 1):
-            client.order(b"A%d" % turn, 1_000 * turn + number)
-        filled = [client.told(b"A%d" % turn, b"F") for client in clients]
-        spent.append(time.monotonic() - begin)
-        stage.same("fills", [b"%d" % (1_000 * turn + number) for number in range(1, 65)],
-                   [it and it[14] for it in filled])
-    stage.within("the shortest of three rounds", 0, min(spent), 10)
-    for number, market in enumerate(markets):
-        own = [1_000 * turn + 4 * number + it for turn in range(ORDERS) for it in range(1, 5)]
-        stage.same(f"what P{number + 1} was asked", own, sorted(it.shares for it in market.orders))
+    asked = [[] for _ in markets]
+    for turn in range(ROUNDS):
+        for number, client in enumerate(clients):
+            buys(client, 1_000 * turn + number + 1, asked[number // 4])
+        filled = [client.told(b"%d" % (1_000 * turn + number + 1), b"F") for number, client in enumerate(clients)]
+        stage.same("orders that aren't filled at once", [], [number for number, it in enumerate(filled, 1) if not it])
+    for number, client in enumerate(clients):
+        spent = [takes(client, 10_000 * number + turn + 3_000, asked[number // 4]) for turn in range(3)]
+        stage.within(f"the shortest of three orders of {client.name}", 0, min(spent), 1)
+    for number, (market, wanted) in enumerate(zip(markets, asked), 1):
+        stage.same(f"what P{number} was asked", sorted(wanted), sorted(it.shares for it in market.orders))
     for client in clients:
         stage.same(f"numbers of {client.name}", [it + 1 for it in range(len(client.frames))],
                    [frame.number for frame in client.frames])
-    audit = time_passes(stage, clients, markets, gateway)
-    stage.holds("all orders agree", audit.endswith(f"orders {64 * ORDERS} agree {64 * ORDERS}\n"), audit[-40:])
+    audit, orders = time_passes(stage, clients, markets, gateway), sum(map(len, asked))
+    stage.holds("all orders agree", audit.endswith(f"orders {orders} agree {orders}\n"), audit[-40:])
+
+
+def buys(client, shares, asked):
+    """An order of so many shares, under that ClOrdID; its port is asked so many."""
+    client.order(b"%d" % shares, shares)
+    asked.append(shares)
+
+
+def takes(client, shares, asked):
+    """The seconds until an order is filled."""
+    begin = time.monotonic()
+    buys(client, shares, asked)
+    return since(begin) if client.told(b"%d" % shares, b"F") else PATIENCE
 
 
 def time_passes(stage, clients, markets, gateway):
@@ -64,23 +77,20 @@ def time_passes(stage, clients, markets, gateway):
 
 
 def full_rings(stage):
-    """two clients that read nothing are held once their rings are full; once they read, each hears all, in order"""
-    clients, (address,) = stage.set_up(3)
+    """two clients that read nothing are held once their rings are full; a third is served; once the two read, each hears
+    all, in order"""
+    # the more clients there are, the more ticks have what was held stepped
+    clients, (address,) = stage.set_up(24)
     stage.market(address)
     gateway = stage.gateway("serve")
-    first, between, last = clients
+    first, between, *_, last = clients
     between.connect().log_on()
     for _ in range(3):
-        heard = [None, None]
-        for client in (first, last):
-            client.close() if client.stream else None
-            client.sent, client.frames = 0, []
-            client.connect(room=4096).log_on((141, b"Y"))
         stage.holds("both are held", are_held([first, last]))
-        between.order(b"W%d" % between.sent)
-        stage.holds("a third is served", between.told(b"W%d" % (between.sent - 1), b"F") is not None)
-        threads = [threading.Thread(target=hears, args=(client, heard, place))
-                   for place, client in enumerate((first, last))]
+        name = b"W%d" % between.sent
+        between.order(name)
+        stage.holds("a third is served", between.told(name, b"F") is not None)
+        threads = [threading.Thread(target=hears, args=[client]) for client in (first, last)]
         for thread in threads:
             thread.start()
         for thread in threads:
@@ -88,30 +98,33 @@ def full_rings(stage):
         # a machine that is slow for five seconds costs them their links: then once more
         if "link fault 2" not in " ".join(gateway.lines()[-8:]):
             break
-    wanted = [b"%d" % it for it in range(REQUESTS)]
-    for client, names in zip((first, last), heard):
-        stage.holds(f"{client.name} hears all, in order", names == wanted, f"{names and len(names)} of {len(wanted)}")
-        stage.same(f"numbers of {client.name}", True,
-                   [it + 1 for it in range(len(client.frames))] == [frame.number for frame in client.frames])
+    for client in (first, last):
+        names = [frame[112].split(b"-")[0] for frame in client.frames if frame.kind == b"0" and frame[112]]
+        stage.holds(f"{client.name} hears all, in order", names == [b"%d" % it for it in range(client.asked)],
+                    f"{len(names)} of {client.asked}")
+        stage.holds(f"numbers of {client.name} go on",
+                    [it + 1 for it in range(len(client.frames))] == [frame.number for frame in client.frames])
     stage.same("how the gateway ends", (0, 0), stage.end(gateway, "--now"))
 
 
 def are_held(clients):
-    """Has clients send Test Requests and read nothing: whether each is held before it has sent all. What is left to be
-    sent they keep as `left`."""
+    """Has clients log on anew, send Test Requests and read nothing: whether nobody takes more before they have sent the
+    most. What is left to be sent they keep as `left`, and how many they made as `asked`."""
     for client in clients:
-        fill = b"y" * LENGTH
-        client.left = b"".join(client.message(b"1", (112, b"%d-%s" % (it, fill))) for it in range(REQUESTS))
+        if client.stream:
+            client.close()
+        client.sent, client.frames, client.asked, client.left = 0, [], 0, b""
+        client.connect().log_on((141, b"Y"))
         client.stream.setblocking(False)
-    while True:
-        sending = [client for client in clients if client.left]
-        able = select.select([], [client.stream for client in sending], [], 0.5)[1]
-        if not able:
-            break
-        for client in sending:
-            if client.stream in able:
-                sends(client)
-    return all(client.left for client in clients)
+    able = clients
+    while able and all(client.asked < MOST for client in clients):
+        able = [it for it in clients if it.stream in select.select([], [it.stream for it in clients], [], 0.5)[1]]
+        for client in able:
+            while len(client.left) < 100_000:
+                client.left += client.message(b"1", (112, b"%d-%s" % (client.asked, FILL)))
+                client.asked += 1
+            sends(client)
+    return not able
 
 
 def sends(client):
@@ -124,18 +137,15 @@ def sends(client):
         client.left = b""
 
 
-def hears(client, heard, place):
-    """Sends what is left and reads until all is answered: the names of the requests that were, in order."""
+def hears(client):
+    """Sends what is left, and reads until all is answered."""
     end = time.monotonic() + PATIENCE
-    names = []
-    while len(names) < REQUESTS and time.monotonic() < end:
+    while len(client.frames) <= client.asked and time.monotonic() < end:
         ready = select.select([client.stream], [client.stream] if client.left else [], [], 1)
         if ready[1]:
             sends(client)
         if ready[0] and not client.read(1):
             break
-        names = [frame[112].split(b"-")[0] for frame in client.frames if frame.kind == b"0" and frame[112]]
-    heard[place] = names
 
 
 STEPS_OF_CROWDS = (full_rings, all_trade)

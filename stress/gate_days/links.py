@@ -1,5 +1,6 @@
 """How links of clients and ports begin, are read, and end."""
 import calendar
+import os
 import socket
 import struct
 import time
@@ -163,19 +164,29 @@ def an_empty_packet(stage):
 
 
 def a_silent_day(stage):
-    """a day ends though one client never came, another is silent, and the market too; not before it is told to"""
+    """a day ends though one client never came, another is silent, and the market too; not before it is told to. Until
+    then nothing is done"""
     clients, (address,) = stage.set_up(2)
     market = stage.market(address)
     gateway = stage.gateway("serve")
     clients[0].connect().log_on()
     stage.holds("the port has a link", holds_within(lambda: len(market.came) == 1))
-    time.sleep(0.5)
+    before = processor(gateway)
+    time.sleep(2)
     stage.same("a gateway that isn't told to end", None, gateway.process.poll())
+    stage.within("seconds of a processor that it takes in two", 0, processor(gateway) - before, 1)
     begin = time.monotonic()
     stage.same("how the gateway ends", (0, 0), stage.end(gateway, "--now"))
     stage.within("seconds to the end", 0, since(begin), 30)
     stage.same("the client's link", "end", clients[0].ending())
     stage.holds("the port's link ends", holds_within(lambda: market.ends == ["end"]))
+
+
+def processor(gateway):
+    """The seconds of a processor that a gateway has taken."""
+    with open(f"/proc/{gateway.process.pid}/stat", encoding="ascii") as file:
+        words = file.read().rpartition(")")[2].split()
+    return (int(words[11]) + int(words[12])) / os.sysconf("SC_CLK_TCK")
 
 
 def an_absent_client(stage):

@@ -65,28 +65,32 @@ class Gateway:
             return None
 
 
+class Wrong(Exception):
+    """What was wanted, and what came: a step ends at the first of these."""
+
+
 class Stage:
-    """A step's gateway, clients and markets, and what was wrong of them."""
+    """A step's gateway, clients and markets."""
 
     def __init__(self, program, addresses, folder):
         self.program, self.addresses, self.folder = program, addresses, Path(folder)
-        self.host, self.wrong, self.gateways, self.markets = addresses.host, [], [], []
+        self.host, self.gateways, self.markets = addresses.host, [], []
         self.settings = self.folder / "settings.toml"
 
     def same(self, what, wanted, came):
         """What came is what was wanted."""
         if wanted != came:
-            self.wrong.append(f"{what}: wanted {wanted!r}, came {came!r}")
+            raise Wrong(f"{what}: wanted {wanted!r}, came {came!r}")
 
     def holds(self, what, is_so, came=""):
         """This is so."""
         if not is_so:
-            self.wrong.append(f"{what}: it isn't so{came and ', came '}{came}")
+            raise Wrong(f"{what}: it isn't so{came and ', came '}{came}")
 
     def within(self, what, least, seconds, most):
         """So many seconds lie between these two."""
         if seconds is None or not least <= seconds <= most:
-            self.wrong.append(f"{what}: wanted {least} to {most} s, came {seconds}")
+            raise Wrong(f"{what}: wanted {least} to {most} s, came {seconds}")
 
     def set_up(self, clients, ports=1, control=True, interval=30):
         """Settings of so many clients and ports, the clients in equal parts, with a control endpoint where one is
