@@ -1,8 +1,8 @@
 //! Ends of a desk, and its turns.
 
 use super::events::put;
-use desk::{Closed, DeskName, Finished, Inlet, Outlet, Shared, Turned};
-use script_steps::{Event, History};
+use desk::{DeskName, Inlet, Shared, Turned};
+use script_steps::Event;
 use std::alloc::{AllocError, Global};
 use std::process::Abort;
 use std::sync::Wait;
@@ -49,39 +49,4 @@ pub fn clock_and_client<K: DeskName>(inlets: Vec<Inlet<K>>) -> Result<(Inlet<K>,
     inlets.truncate(1);
     let client = inlets.pop().ok_or("an inlet")?;
     Ok((clock, client))
-}
-
-/// The outlet of the first client.
-pub fn first_outlet<K: DeskName>(outlets: Vec<Outlet<K>>) -> Result<Outlet<K>, Fail> {
-    let mut outlets = outlets;
-    outlets.truncate(1);
-    Ok(outlets.pop().ok_or("an outlet")?)
-}
-
-/// Finishes an inlet, and keeps what is left of it.
-pub fn finish_inlet<K: DeskName>(
-    inlet: Inlet<K>,
-    finished: &mut Vec<Finished<K>>,
-) -> Result<(), Fail> {
-    let left = inlet.finish().ok_or("the desk is there")?;
-    Ok(finished.push(left)?)
-}
-
-/// The history of a desk that is closed.
-pub fn close<K: DeskName>(
-    alloc: Global,
-    shared: Shared<K>,
-    finished: Vec<Finished<K>>,
-) -> Result<History, Fail> {
-    match shared.close(alloc, finished) {
-        Ok(
-            Closed {
-                history,
-                settings: _,
-                journal: _,
-                lost: _,
-            },
-        ) => Ok(history),
-        Err(_) => Err(Fail::new("the desk isn't closed")),
-    }
 }

@@ -12,8 +12,6 @@ mod events;
 #[cfg(test)]
 mod lent;
 #[cfg(test)]
-mod threads;
-#[cfg(test)]
 mod told_at_once;
 #[cfg(test)]
 mod turned_by_both;

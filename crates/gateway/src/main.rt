@@ -28,12 +28,8 @@ use stderr_queue::{LineQueue, Queued, start_writer};
 
 mod demo_served;
 mod journal;
-#[cfg(test)]
-mod missing_files;
 mod played;
 mod served;
-#[cfg(test)]
-mod world_numbers;
 
 use demo_served::{asked_demo, serve_demo};
 use journal::journal_asked;

@@ -1,6 +1,5 @@
 //! A clock over a system whose time goes back.
 
-use super::streams::{begins, holds};
 use link_sockets::{Clock, SystemClock};
 use std::io;
 use std::process::Abort;
@@ -29,14 +28,13 @@ impl time::Clock for Moments {
 }
 
 /// A clock that was told these moments never shows less than before.
-pub fn never_goes_back<R: Abort + Eprint>(rt: &R) {
-    begins(rt, "a clock never goes back");
+pub fn never_goes_back<R: Abort>(rt: &R) {
     let system = Moments {
         told: [5_000, 3_000, 4_999, 6_001],
         next: AtomicUsize::new(0),
     };
     let mut clock = SystemClock::new(&system, Duration::from_millis(1));
     for expected in [5_000, 5_000, 5_000, 6_001, 6_001, 6_001] {
-        holds(rt, clock.now_ms() == expected);
+        assert!(rt; clock.now_ms() == expected);
     }
 }

@@ -1,0 +1,61 @@
+"""`python3 -m stress.gate_days GATEWAY [STEP..]`: days of a built gateway, side by side.
+
+Each step has a gateway, clients and markets of its own, and prints a line on standard error: what it shows, and what was
+wanted and came where that differs. All that has to come is waited for as long as a busy machine may need; what mustn't
+come early is compared strictly. The status is 0 where all steps are right. With names, those steps alone are made."""
+import os
+import sys
+import tempfile
+import time
+import traceback
+from concurrent.futures import ThreadPoolExecutor, as_completed
+
+from .command_line import STEPS_OF_COMMANDS
+from .counted_days import STEPS_OF_COUNTED_DAYS
+from .crowd import STEPS_OF_CROWDS
+from .links import STEPS_OF_LINKS
+from .stage import Addresses, Stage, Wrong
+from .telling import STEPS_OF_TELLING
+
+# the longest first, so that the others go on beside them
+STEPS = STEPS_OF_TELLING + STEPS_OF_CROWDS + STEPS_OF_LINKS + STEPS_OF_COUNTED_DAYS + STEPS_OF_COMMANDS
+AT_ONCE = 6
+
+
+def made(step, program, addresses):
+    """Makes a step: what to print of it, and whether it is right."""
+    begin, wrong, told = time.monotonic(), None, []
+    with tempfile.TemporaryDirectory() as folder:
+        stage = Stage(program, addresses, folder)
+        try:
+            step(stage)
+        except Wrong as it:
+            wrong, told = str(it), stage.told()
+        except Exception:  # whatever else ends a step is wrong too
+            wrong, told = traceback.format_exc().strip(), stage.told()
+        stage.clear()
+    what = " ".join(step.__doc__.split())
+    lines = [f"{'WRONG' if wrong else 'right'}  {step.__name__} ({time.monotonic() - begin:.1f} s): {what}"]
+    lines += [f"       {wrong}"] * bool(wrong) + [f"       told: {it}" for it in told]
+    return lines, not wrong
+
+
+def main():
+    program, names, begin = os.path.abspath(sys.argv[1]), sys.argv[2:], time.monotonic()
+    steps = [it for it in STEPS if not names or it.__name__ in names]
+    if not os.access(program, os.X_OK) or not steps:
+        print(f"no gateway at {program}, or no such step", file=sys.stderr)
+        return 2
+    addresses, wrong = Addresses(), 0
+    with ThreadPoolExecutor(AT_ONCE) as pool:
+        for done in as_completed([pool.submit(made, step, program, addresses) for step in steps]):
+            lines, is_right = done.result()
+            print("\n".join(lines), file=sys.stderr, flush=True)
+            wrong += not is_right
+    print(f"days of the gateway: {len(steps) - wrong} right, {wrong} wrong, in {time.monotonic() - begin:.0f} s",
+          file=sys.stderr)
+    return 1 if wrong else 0
+
+
+if __name__ == "__main__":
+    sys.exit(main())

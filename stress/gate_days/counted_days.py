@@ -1,0 +1,94 @@
+"""Days of `gateway run`, which serves a counted number of links of each client, and then ends by itself."""
+import re
+
+from .peers import holds_within
+
+FIRST = "C1 A1 side 1 executed 100 open 0 cancelled 0 value 10000000 agree\n"
+AUDIT = (FIRST + "C1 A2 side 1 executed 200 open 0 cancelled 0 value 21000000 agree\n"
+         "C2 A3 side 1 executed 300 open 0 cancelled 0 value 33000000 agree\norders 3 agree 3\n")
+
+
+def all_come_and_go(stage):
+    """64 clients on 16 ports are all logged on at once, and log out: an audit of no order, and no fault"""
+    clients, addresses = stage.set_up(64, 16, control=False)
+    for address in addresses:
+        stage.market(address, is_silent=True)
+    gateway = stage.gateway("run")
+    for client in clients:
+        stage.holds(f"{client.name} is logged on", client.connect().log_on() is not None)
+    for client in clients:
+        stage.holds(f"{client.name} is logged out", client.log_out() is not None)
+    for client in clients:
+        stage.same(f"the link of {client.name}", "end", client.ending())
+    stage.same("status and audit", (0, "orders 0 agree 0\n"), (gateway.status(), gateway.output.read_text()))
+    told = gateway.lines()
+    for name in [f"C{n}" for n in range(1, 65)] + [f"P{n}" for n in range(1, 17)]:
+        stage.same(f"links of {name}", 1, told.count(f"{name} up"))
+    strange = [line for line in told if not re.fullmatch(r"[CP]\d+ (up|gone|closed by the gateway|sent 35=5\|.*)", line)]
+    stage.same("other lines", [], strange)
+
+
+def an_unlawful_market(stage):
+    """a payload outside the profile ends its port alone: fault 4, once; its client's next order is refused"""
+    (one, two), addresses = stage.set_up(2, 2, control=False)
+    first, second = (stage.market(it) for it in addresses)
+    gateway = stage.gateway("run")
+    for client in (one, two):
+        client.connect().log_on()
+        client.order(b"A1")
+        stage.holds(f"{client.name}'s order is filled", client.told(b"A1", b"F") is not None)
+    first.raw.append(b"\x00\x03S00")
+    stage.holds("the gateway closes the port's link", holds_within(lambda: first.ends == ["end"]))
+    stage.holds("the fault is told", gateway.says(" P1 port fault 4: "))
+    one.order(b"A2")
+    refusal = one.told(b"A2", b"8")
+    stage.same("the next order on that port", (b"8", b"2", b"port fault 4"),
+               refusal and (refusal[39], refusal[103], refusal[58]))
+    two.order(b"A2")
+    stage.holds("an order on the other port is filled", two.told(b"A2", b"F") is not None)
+    stage.same("the other port's links", (1, []), (len(second.came), second.ends))
+    for client in (one, two):
+        stage.holds(f"{client.name} is logged out", client.log_out() is not None)
+        stage.same(f"the link of {client.name}", "end", client.ending())
+    other = FIRST.replace("C1", "C2")
+    audit = FIRST + other + other.replace("A1", "A2") + "orders 3 agree 3\n"
+    stage.same("status and audit", (0, audit), (gateway.status(), gateway.output.read_text()))
+    faults = [line for line in gateway.lines() if "fault" in line]
+    stage.same("faults", 1, len(faults))
+    stage.same("orders that the faulted port was asked", 1, len(first.orders))
+
+
+def lost_links(stage):
+    """a client and a port each lose a link and come again: all orders agree, and so does the journal, read again"""
+    (one, two), addresses = stage.set_up(2, 2, control=False)
+    first, second = (stage.market(it) for it in addresses)
+    first.cut_at = 1
+    journal = str(stage.folder / "day")
+    gateway = stage.gateway("run", "--links", "2", "--journal", journal)
+    one.connect().log_on()
+    one.order(b"A1")
+    stage.holds("the first order is filled", one.told(b"A1", b"F") is not None)
+    one.close()
+    stage.holds("the market cuts its link", holds_within(lambda: first.ends == ["cut"]))
+    stage.holds("the client logs on again", one.connect().log_on() is not None)
+    one.order(b"A2", 200, b"10.5")
+    stage.holds("its next order is filled over the port's next link", one.told(b"A2", b"F") is not None)
+    stage.same("links of the first port", 2, len(first.came))
+    two.connect().log_on()
+    two.order(b"A3", 300, b"11")
+    stage.holds("the other client's order is filled", two.told(b"A3", b"F") is not None)
+    stage.holds("it logs out", two.log_out() is not None)
+    two.ending()
+    stage.holds("it comes again", two.connect().log_on() is not None)
+    stage.same("numbers of what it was sent go on", [it + 1 for it in range(len(two.frames))],
+               [frame.number for frame in two.frames])
+    for client in (one, two):
+        stage.holds(f"{client.name} is logged out", client.log_out() is not None)
+        client.ending()
+    stage.same("status and audit", (0, AUDIT), (gateway.status(), gateway.output.read_text()))
+    stage.holds("the other port's one link ends", holds_within(lambda: second.ends == ["end"]))
+    stage.same("the journal's audit", (0, AUDIT, ""),
+               stage.asked("audit", "--journal", journal, "--settings", str(stage.settings)))
+
+
+STEPS_OF_COUNTED_DAYS = (all_come_and_go, lost_links, an_unlawful_market)

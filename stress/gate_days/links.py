@@ -1,0 +1,274 @@
+"""How links of clients and ports begin, are read, and end."""
+import calendar
+import os
+import socket
+import struct
+import time
+
+from .peers import PATIENCE, holds_within
+from .stage import since
+
+SECOND = 0.9  # a second, but for what clocks round
+X = b"x" * 10_000
+
+
+def logged_out(client, more=b""):
+    """Has a client logged out for a number that is too low, with more behind it; its next Logon is in order."""
+    before = len(client.frames)
+    client.sent = 0
+    client.stream.sendall(client.message(b"0") + more)
+    client.sent = before
+    return client.wait(lambda frame: frame.kind == b"5", begin=before)
+
+
+def last_words(stage):
+    """a Logout arrives though its peer has said more; a second later, if that doesn't close, its next link is served"""
+    (client,), (address,) = stage.set_up(1)
+    stage.market(address)
+    stage.gateway("serve")
+    client.connect().log_on()
+    begin, old = time.monotonic(), client.stream
+    stage.holds("the Logout comes", logged_out(client, X) is not None)
+    stage.same("behind it the link ends", "end", client.ending())
+    client.connect()
+    stage.holds("it logs on again", client.log_on() is not None)
+    stage.within("from the one to the other", SECOND, since(begin), PATIENCE)
+    old.close()
+
+
+def closes_at_once(stage):
+    """a link whose peer closes it at its Logout is followed by the next one at once"""
+    (client,), (address,) = stage.set_up(1)
+    stage.market(address)
+    stage.gateway("serve")
+    client.connect().log_on()
+    spent = []
+    for _ in range(5):
+        stage.holds("the Logout comes", logged_out(client) is not None)
+        begin = time.monotonic()
+        client.close()
+        stage.holds("it logs on again", client.connect().log_on() is not None)
+        spent.append(since(begin))
+    stage.within("the shortest of five", 0, min(spent), SECOND)
+
+
+def what_no_frame_is(stage):
+    """bytes that are no frame are skipped, and told as their count doubles; too long a frame ends its link, behind all
+    before it; a reset link is told as one"""
+    (client,), (address,) = stage.set_up(1)
+    stage.market(address)
+    gateway = stage.gateway("serve")
+    client.connect().log_on()
+    one, two = client.message(b"1", (112, b"one")), client.message(b"1", (112, b"two"))
+    client.stream.sendall(b"abc" + one + b"de" + two + b"fg")
+    stage.holds("the messages between are answered", answers(client, b"one", b"two"))
+    client.close()
+    stage.holds("the link is gone", gateway.says(" C1 gone\n"))
+    stage.same("skipped at once", (["skipped 7 bytes"], "gone"), skipped(gateway, 0))
+    client.connect().log_on()
+    one, two = client.message(b"1", (112, b"three")), client.message(b"1", (112, b"four"))
+    for byte in b"abc" + one + b"de" + two + b"fg":
+        client.stream.sendall(bytes([byte]))
+        time.sleep(0.001)
+    stage.holds("the messages between are answered", answers(client, b"three", b"four"))
+    client.close()
+    stage.holds("the link is gone", holds_within(lambda: gateway.lines().count("C1 gone") == 2))
+    told, _ = skipped(gateway, 1)
+    counts = [int(line.split()[1]) for line in told]
+    grows = all(later >= 2 * earlier for earlier, later in zip(counts[:-1], counts[1:-1]))
+    stage.holds("counts that double, and the last", grows and counts[-1:] == [7], repr(counts))
+    client.connect().log_on()
+    client.stream.sendall(client.message(b"1", (112, b"five")) + b"8=FIX.4.4\x019=8169\x01")
+    stage.holds("the message before a long frame is answered", answers(client, b"five"))
+    stage.same("the link ends", "end", client.ending())
+    client.close()
+    stage.holds("the long frame is told", gateway.says(" C1 link fault 3: "))
+    client.connect().log_on()
+    client.stream.setsockopt(socket.SOL_SOCKET, socket.SO_LINGER, struct.pack("ii", 1, 0))
+    client.close()
+    stage.holds("the reset is told", gateway.says(" C1 link fault 1: "))
+    stage.holds("the next link is served", client.connect().log_on() is not None)
+    stage.same("faults", 2, sum(" fault " in line for line in gateway.lines()))
+
+
+def answers(client, *names):
+    """Whether these Test Requests are answered, one behind the other."""
+    heard = [client.wait(lambda frame, it=it: frame.kind == b"0" and frame[112] == it) for it in names]
+    places = [client.frames.index(it) for it in heard if it]
+    return len(places) == len(names) and places == sorted(places)
+
+
+def skipped(gateway, link):
+    """What is told of bytes that were skipped on a client's link of this place, and how the link ended."""
+    lines = [line[3:] for line in gateway.lines() if line.startswith("C1 ")]
+    links = []
+    for line in lines:
+        if line.startswith("up"):
+            links.append([])
+        elif links:
+            links[-1].append(line)
+    told = links[link]
+    return [line for line in told if line.startswith("skipped")], told[-1]
+
+
+def a_port_is_connected_again(stage):
+    """a port is connected a second after a link; tries in vain don't count; then it has had its links"""
+    (client,), (address,) = stage.set_up(1, control=False)
+    market = stage.market(address)
+    gateway = stage.gateway("run", "--links", "3")
+    client.connect().log_on()
+    stage.holds("the port has a link", holds_within(lambda: len(market.came) == 1))
+    begin = time.monotonic()
+    market.cut_at = 0
+    stage.holds("it has another", holds_within(lambda: len(market.came) == 2))
+    stage.within("from the cut to the next link", SECOND, market.came[1] - begin, PATIENCE)
+    market.end()
+    stage.holds("that nobody listens is told", gateway.says(" P1 link fault 1: "))
+    time.sleep(2.5)
+    market.listen()
+    stage.holds("behind tries in vain it has a third", holds_within(lambda: len(market.came) == 3))
+    stage.same("they are told once", 1, sum("fault" in line for line in gateway.lines()))
+    client.order(b"A1")
+    stage.holds("an order is filled over it", client.told(b"A1", b"F") is not None)
+    market.cut_at = 0
+    stage.holds("it is cut", holds_within(lambda: market.ends == ["cut"] * 3))
+    time.sleep(1.5)
+    for turn in range(3):
+        stage.holds("the client is logged out", client.log_out() is not None)
+        client.ending()
+        if turn < 2:
+            client.close()
+            stage.holds("it logs on again", client.connect().log_on() is not None)
+    stage.same("status and audit", (0, True), (gateway.status(), gateway.output.read_text().endswith("agree 1\n")))
+    stage.same("links of the port", 3, len(market.came))
+
+
+def an_empty_packet(stage):
+    """an empty packet ends its port's link, behind all before it; the port is connected again a second later"""
+    (client,), (address,) = stage.set_up(1)
+    market = stage.market(address)
+    gateway = stage.gateway("serve")
+    client.connect().log_on()
+    client.order(b"A1", price=b"1")
+    stage.holds("an order is open", client.told(b"A1", b"0") is not None)
+    begin = time.monotonic()
+    market.fill(0)
+    stage.holds("what comes before is told", client.told(b"A1", b"F") is not None)
+    market.raw.append(b"\x00\x00")
+    stage.holds("the empty packet is told", gateway.says(" P1 link fault 3: "))
+    stage.holds("the port has another link", holds_within(lambda: len(market.came) == 2))
+    stage.within("from the packet to the next link", SECOND, market.came[1] - begin, PATIENCE)
+    client.order(b"A2")
+    stage.holds("an order is filled over it", client.told(b"A2", b"F") is not None)
+    stage.same("how the gateway ends", (0, 0), stage.end(gateway, "--now"))
+
+
+def a_silent_day(stage):
+    """a day ends though one client never came, another is silent, and the market too; not before it is told to. Until
+    then nothing is done"""
+    clients, (address,) = stage.set_up(2)
+    market = stage.market(address)
+    gateway = stage.gateway("serve")
+    clients[0].connect().log_on()
+    stage.holds("the port has a link", holds_within(lambda: len(market.came) == 1))
+    before = processor(gateway)
+    time.sleep(2)
+    stage.same("a gateway that isn't told to end", None, gateway.process.poll())
+    stage.within("seconds of a processor that it takes in two", 0, processor(gateway) - before, 1)
+    begin = time.monotonic()
+    stage.same("how the gateway ends", (0, 0), stage.end(gateway, "--now"))
+    stage.within("seconds to the end", 0, since(begin), 30)
+    stage.same("the client's link", "end", clients[0].ending())
+    stage.holds("the port's link ends", holds_within(lambda: market.ends == ["end"]))
+
+
+def processor(gateway):
+    """The seconds of a processor that a gateway has taken."""
+    with open(f"/proc/{gateway.process.pid}/stat", encoding="ascii") as file:
+        words = file.read().rpartition(")")[2].split()
+    return (int(words[11]) + int(words[12])) / os.sysconf("SC_CLK_TCK")
+
+
+def an_absent_client(stage):
+    """what a client is told while it is away isn't on its next link, until it asks"""
+    (client,), (address,) = stage.set_up(1)
+    market = stage.market(address)
+    gateway = stage.gateway("serve")
+    client.connect().log_on()
+    for name in (b"A1", b"A2", b"A3"):
+        client.order(name, price=b"1")
+        stage.holds("an order is open", client.told(name, b"0") is not None)
+    last = client.frames[-1].number
+    stage.holds("it is logged out", logged_out(client) is not None)
+    client.sent = 4
+    for place in range(3):
+        market.fill(place)
+    stage.same("behind the Logout the link ends", "end", client.ending())
+    client.close()
+    status = stage.folder / "told"
+    stage.holds("its link is over", holds_within(lambda: "C1 closed by the gateway" in gateway.lines()), str(status))
+    before = len(client.frames)
+    stage.holds("it logs on again", client.connect().log_on() is not None)
+    client.send(b"1", (112, b"here"))
+    stage.holds("it is answered", client.wait(lambda frame: frame[112] == b"here", begin=before) is not None)
+    stage.same("what it hears", [b"A", b"0"], [frame.kind for frame in client.frames[before:]])
+    client.send(b"2", (7, b"%d" % (last + 1)), (16, b"0"))
+    stage.holds("it is told what it asks for", client.wait(lambda frame: (frame.kind, frame[11]) == (b"8", b"A3"),
+                                                           begin=before) is not None)
+    told = [frame[11] for frame in client.frames[before:] if (frame.kind, frame[150]) == (b"8", b"F")]
+    stage.same("its orders' fills", [b"A1", b"A2", b"A3"], told)
+    stage.same("how the gateway ends", (0, 0), stage.end(gateway, "--now"))
+
+
+def a_client_that_reads_nothing(stage):
+    """a client that reads nothing loses its link after five seconds; others are served promptly meanwhile"""
+    clients, addresses = stage.set_up(4, 2)
+    for address in addresses:
+        stage.market(address)
+    gateway = stage.gateway("serve")
+    deaf, *others = clients
+    for client in others:
+        client.connect().log_on()
+    deaf.connect(room=4096).log_on()
+    for number in range(300):
+        deaf.order(b"N%d" % number, price=b"0")
+    begin, asked = time.time(), 0
+    deaf.stream.settimeout(0.05)
+    spent, fault, end = [], None, time.monotonic() + PATIENCE
+    while fault is None and time.monotonic() < end:
+        asked = asks_again(deaf, asked)
+        for client in others:
+            name = b"W%d" % len(spent)
+            sent = time.monotonic()
+            client.order(name)
+            stage.holds("an order is filled meanwhile", client.told(name, b"F") is not None)
+            spent.append(since(sent))
+        fault = next((line for line in gateway.errors.read_text().splitlines() if " C1 link fault 2: " in line), None)
+    stage.holds("it loses its link", fault is not None)
+    stage.within("seconds until it does", 4.9, fault and seconds_of(fault[:21]) - begin, PATIENCE)
+    stage.within("the longest order of others", 0, max(spent), 4.5)
+    deaf.close()
+    deaf.sent = 0
+    stage.holds("it logs on again", deaf.connect().log_on((141, b"Y")) is not None)
+    stage.same("how the gateway ends", (0, 0), stage.end(gateway, "--now"))
+
+
+def asks_again(client, asked):
+    """Asks for all messages again, up to 2,000 times in all, as long as somebody takes that."""
+    try:
+        while asked < 2_000:
+            client.send(b"2", (7, b"1"), (16, b"0"))
+            asked += 1
+    except OSError:
+        return 2_000
+    return asked
+
+
+def seconds_of(text):
+    """A UTCTimestamp as seconds since 1970."""
+    whole, _, part = text.partition(".")
+    return calendar.timegm(time.strptime(whole, "%Y%m%d-%H:%M:%S")) + int(part) / 1000
+
+
+STEPS_OF_LINKS = (a_client_that_reads_nothing, a_port_is_connected_again, last_words, closes_at_once, an_empty_packet,
+                  what_no_frame_is, an_absent_client, a_silent_day)

@@ -1,0 +1,71 @@
+"""What is told on standard error, and a demonstration that doesn't come to its end."""
+import fcntl
+import subprocess
+import sys
+import time
+
+from .peers import PATIENCE, holds_within
+
+MESSAGES = 4_000
+
+
+def a_text_of_two_lines(stage):
+    """a text of a peer stays in its line"""
+    (client,), (address,) = stage.set_up(1)
+    stage.market(address)
+    gateway = stage.gateway("serve")
+    client.name = b"up\nC2 up\x1b[2J"
+    client.connect().send(b"A", (98, b"0"), (108, b"30"))
+    stage.same("the link", "end", client.ending())
+    line = "C1 Logon refused: 49=up.C2 up.[2J isn't this client's name"
+    stage.holds("its line", holds_within(lambda: line in gateway.lines()), repr(gateway.lines()[-2:]))
+    stage.holds("no other", "C2 up" not in gateway.lines())
+
+
+def lines_that_nobody_reads(stage):
+    """lines on standard error that nobody reads are dropped and counted: none is lost without being told of"""
+    (client,), (address,) = stage.set_up(1)
+    stage.market(address)
+    gateway = stage.gateway("serve", errors=subprocess.PIPE)
+    pipe = gateway.process.stderr
+    fcntl.fcntl(pipe, fcntl.F_SETPIPE_SZ, 4096)
+    client.connect().log_on()
+    for number in range(MESSAGES):
+        client.send(b"D", (11, b"%d" % number))
+        if number % 100 == 99:
+            stage.holds("a message is rejected while nobody reads", answered(client, number + 2))
+    stage.holds("the client is logged out", client.log_out() is not None)
+    client.close()
+    told = read_to_end(stage, gateway, pipe)
+    lost = sum(int(line.split()[1]) for line in told if line.startswith("gateway: ") and "lines are lost here" in line)
+    kept = sum(" C1 sent 35=3|" in line for line in told)
+    other = sum(" C1 " in line and " sent 35=3|" not in line for line in told)
+    stage.holds("lines are lost", lost > MESSAGES - 2_000, str(lost))
+    stage.holds("no more than these", MESSAGES <= kept + lost <= MESSAGES + 3 and other >= 1, f"{kept} {lost} {other}")
+
+
+def answered(client, number):
+    """Whether its message of this number is rejected."""
+    wanted = b"%d" % number
+    return client.wait(lambda frame: frame.kind == b"3" and frame[45] == wanted, begin=max(0, number - 200)) is not None
+
+
+def read_to_end(stage, gateway, pipe):
+    """Reads standard error while the day ends: its lines."""
+    ending = subprocess.Popen([stage.program, "end", "--settings", str(stage.settings), "--now"])
+    told = pipe.read().decode()
+    stage.same("how the gateway ends", (0, 0), (ending.wait(PATIENCE), gateway.status()))
+    return told.splitlines()
+
+
+def a_demonstration_that_is_not_finished(stage):
+    """a demonstration whose market fills nothing says so after ten seconds, with status 1 and no audit"""
+    begin = time.monotonic()
+    ran = subprocess.run([sys.executable, "-m", "stress.gate_days.held_demo", stage.program], capture_output=True,
+                         text=True, timeout=PATIENCE, check=False)
+    told = [line for line in ran.stderr.splitlines() if " orders wait, since " not in line]
+    stage.same("what it comes to", (1, "", ["demo: not finished"]), (ran.returncode, ran.stdout, told))
+    stage.within("seconds", 9.9, time.monotonic() - begin, PATIENCE)
+
+
+STEPS_OF_TELLING = (a_demonstration_that_is_not_finished, lines_that_nobody_reads, a_text_of_two_lines)
