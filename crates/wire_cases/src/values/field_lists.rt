@@ -1,6 +1,6 @@
 //! Messages as fields, in texts in which `|` stands for SOH.
 
-use crate::decimals::number;
+use super::decimals::number;
 use case_lines::{bytes_of, first_word, shown};
 use fix_types::{Fields, split};
 use std::alloc::{AllocError, Global};

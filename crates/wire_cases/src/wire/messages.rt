@@ -1,6 +1,6 @@
 //! Messages of fixed length, each by the word of its type.
 
-use crate::layouts::first_wrong;
+use super::layouts::first_wrong;
 use ouch_codec::{
     Accepted, Broken, Cancel, CancelPending, CancelReject, Canceled, EnterOrder, Executed,
     Rejected, Replace, Replaced, SystemEvent,

@@ -1,7 +1,7 @@
 //! A reader of frames or of packets.
 
-use crate::frames::{lend_frames, move_frames};
-use crate::packets::lend_packets;
+use super::frames::{lend_frames, move_frames};
+use super::packets::lend_packets;
 use fix_framing::{FrameFault, Framer};
 use soup_packets::{PacketFault, Packets, WholeWire};
 use std::alloc::{AllocError, Global};
@@ -95,8 +95,8 @@ impl Reader {
     /// added to `text`.
     pub fn front(&mut self, text: &mut Vec<u8>) -> Result<Front, AllocError> {
         match self {
-            Reader::Frames(framer) => crate::frames::front(framer, text),
-            Reader::Packets(packets) => crate::packets::front(packets, text),
+            Reader::Frames(framer) => super::frames::front(framer, text),
+            Reader::Packets(packets) => super::packets::front(packets, text),
         }
     }
 

@@ -1,5 +1,6 @@
 //! Each byte of a message takes each value: which are read follows from the field that it stands in.
 
+use super::put_byte;
 use wire_law::FixedWire;
 
 /// Whether a byte of such a field may have this value: `p` is printable, `s` a side, `o` an order state, `n` a number,
@@ -45,12 +46,5 @@ fn is_wrong(field: u8, byte: u8, is_read: bool) -> bool {
     match is_taken(field, byte) {
         Some(taken) => taken != is_read,
         None => false,
-    }
-}
-
-/// A byte is another.
-fn put_byte(bytes: &mut Vec<u8>, at: usize, value: u8) {
-    if let Some(byte) = bytes.get_mut(at) {
-        *byte = value;
     }
 }

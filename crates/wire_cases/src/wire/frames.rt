@@ -1,7 +1,8 @@
 //! Frames, one by one.
 
-use crate::reader::{Form, Front};
-use crate::streams::{self, verdict};
+use super::put_byte;
+use super::reader::{Form, Front};
+use super::streams::{self, verdict};
 use case_lines::shown;
 use fix_fields::{is_value, split};
 use fix_framing::{Fields, FrameFault, Framer, frame, front_body};
@@ -103,13 +104,6 @@ fn is_read_with(
     let is_read = has_frame(alloc, text.as_slice())?;
     put_byte(text, at, was);
     Ok(is_read)
-}
-
-/// A byte is another.
-fn put_byte(text: &mut Vec<u8>, at: usize, value: u8) {
-    if let Some(byte) = text.get_mut(at) {
-        *byte = value;
-    }
 }
 
 /// Whether a text has a frame, or is the beginning of too long a one.

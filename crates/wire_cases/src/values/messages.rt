@@ -1,6 +1,6 @@
 //! FIX messages as types: read from fields, and written in their own order.
 
-use crate::fields::fields_of;
+use super::field_lists::fields_of;
 use case_lines::shown;
 use fix_fields::PrintedFields;
 use fix_types::{

@@ -1,7 +1,7 @@
 //! Packets, one by one.
 
-use crate::reader::{Form, Front};
-use crate::streams;
+use super::reader::{Form, Front};
+use super::streams;
 use case_lines::shown;
 use soup_packets::{Packet, PacketFault, Packets, Payload, WholeWire};
 use std::alloc::{AllocError, Global};

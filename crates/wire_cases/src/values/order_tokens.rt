@@ -1,6 +1,6 @@
 //! Tokens and their numbers.
 
-use crate::decimals;
+use super::decimals;
 use std::alloc::{AllocError, Global};
 use std::str;
 use tokens::Token;

@@ -1,6 +1,6 @@
 //! Streams in pieces of each size and cut at each place, taken from a reader in each of its ways.
 
-use crate::reader::{Form, Front, Reader, Way};
+use super::reader::{Form, Front, Reader, Way};
 use case_lines::shown;
 use std::alloc::{AllocError, Global};
 
