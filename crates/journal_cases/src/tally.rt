@@ -1,7 +1,7 @@
 //! What came of changed pages.
 
 use gate_journal::PageFault;
-use std::io::{self, Write};
+use std::fmt;
 
 /// What reading pages comes to.
 #[derive(Clone, Copy, PartialEq, Eq)]
@@ -18,12 +18,8 @@ pub enum Outcome {
 /// How many pages were refused, by why, how many were read, and how many otherwise than they are to be.
 #[derive(Clone, Copy)]
 pub struct Tally {
-    head: u64,
-    kind: u64,
-    cut_short: u64,
-    payload: u64,
-    order: u64,
-    number: u64,
+    /// By the place of the fault: head, kind, cut short, payload, order, number.
+    refused: [u64; 6],
     read: u64,
     wrong: u64,
 }
@@ -32,12 +28,7 @@ impl Tally {
     /// Nothing was read.
     pub fn new() -> Tally {
         Tally {
-            head: 0,
-            kind: 0,
-            cut_short: 0,
-            payload: 0,
-            order: 0,
-            number: 0,
+            refused: [0; 6],
             read: 0,
             wrong: 0,
         }
@@ -45,33 +36,36 @@ impl Tally {
 
     /// Counts what came of pages that are the same as before up to a page of this number, which is refused first.
     pub fn count(&mut self, outcome: Outcome, from: usize) {
-        match outcome {
-            Outcome::Refused(page, fault) if page as usize >= from => self.refuse(fault),
-            Outcome::Read => self.read = self.read.saturating_add(1),
-            _ => self.wrong = self.wrong.saturating_add(1),
-        }
+        let counted = match outcome {
+            Outcome::Refused(page, fault) if page as usize >= from => self.refused_for(fault),
+            Outcome::Read => &mut self.read,
+            _ => &mut self.wrong,
+        };
+        *counted = counted.saturating_add(1);
     }
 
-    /// Counts a refusal. Memory isn't to run out.
-    fn refuse(&mut self, fault: PageFault) {
+    /// How many were refused so. Memory isn't to run out.
+    fn refused_for(&mut self, fault: PageFault) -> &mut u64 {
+        let [head, kind, cut_short, payload, order, number] = &mut self.refused;
         match fault {
-            PageFault::Head => self.head = self.head.saturating_add(1),
-            PageFault::Kind => self.kind = self.kind.saturating_add(1),
-            PageFault::CutShort => self.cut_short = self.cut_short.saturating_add(1),
-            PageFault::Payload => self.payload = self.payload.saturating_add(1),
-            PageFault::Order => self.order = self.order.saturating_add(1),
-            PageFault::Number => self.number = self.number.saturating_add(1),
-            PageFault::NoMemory => self.wrong = self.wrong.saturating_add(1),
+            PageFault::Head => head,
+            PageFault::Kind => kind,
+            PageFault::CutShort => cut_short,
+            PageFault::Payload => payload,
+            PageFault::Order => order,
+            PageFault::Number => number,
+            PageFault::NoMemory => &mut self.wrong,
         }
     }
+}
 
-    /// Prints the counts.
-    pub fn print<W: Write>(self, output: &mut W) -> io::Result<()> {
+impl fmt::Display for Tally {
+    fn fmt<W: fmt::Write>(&self, f: &mut fmt::Formatter<W>) -> fmt::Result {
+        let [head, kind, cut_short, payload, order, number] = self.refused;
         write!(
-            output,
-            "refused: head {}, kind {}, cut short {}, payload {}, order {}, number {}",
-            self.head, self.kind, self.cut_short, self.payload, self.order, self.number
+            f,
+            "refused: head {head}, kind {kind}, cut short {cut_short}, payload {payload}, order {order}, number {number}"
         )?;
-        writeln!(output, "; read: {}; wrong: {}", self.read, self.wrong)
+        write!(f, "; read: {}; wrong: {}", self.read, self.wrong)
     }
 }
