@@ -64,8 +64,9 @@ impl fmt::Display for Tally {
         let [head, kind, cut_short, payload, order, number] = self.refused;
         write!(
             f,
-            "refused: head {head}, kind {kind}, cut short {cut_short}, payload {payload}, order {order}, number {number}"
+            "refused: head {head}, kind {kind}, cut short {cut_short}, "
         )?;
+        write!(f, "payload {payload}, order {order}, number {number}")?;
         write!(f, "; read: {}; wrong: {}", self.read, self.wrong)
     }
 }

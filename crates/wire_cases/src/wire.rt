@@ -33,7 +33,7 @@ fn answer_to(
         "ouch" => decoding::answer(alloc, call, bytes),
         "field" => fields::answer(alloc, call, text, bytes),
         "frames" => frames::answer(alloc, call, text, bytes),
-        "packets" => packets::answer(alloc, call, bytes),
+        "packets" => packets::answer(alloc, call, text, bytes),
         _ => messages::answer(alloc, subject, call, bytes),
     }
 }

@@ -24,8 +24,8 @@ impl Sender {
         self.link = self.link.saturating_add(1);
     }
 
-    /// The text of a message by its fields, in which `|` stands for SOH: behind the first one stand 49, 56, 34 and 52. No
-    /// text of no fields.
+    /// The text of a message by its fields, in which `|` stands for SOH: behind the first one stand 49, 56, 34 and 52.
+    /// No text of no fields.
     pub fn text(
         &mut self,
         alloc: Global,

@@ -7,11 +7,13 @@ use soup_packets::{Packet, PacketFault, Packets, Payload, WholeWire};
 use std::alloc::{AllocError, Global};
 
 /// What a call on bytes of packets answers.
-pub fn answer(alloc: Global, call: &str, bytes: &[u8]) -> Result<String, AllocError> {
+pub fn answer(alloc: Global, call: &str, text: &str, bytes: &[u8]) -> Result<String, AllocError> {
     if let Some(answer) = streams::answer(alloc, Form::Packets, call, bytes)? {
         return Ok(answer);
     }
     match call {
+        "whole" => whole(alloc, bytes),
+        "zeros" => zeros(alloc, text.parse::<usize>().unwrap_or(0)),
         "becomes" => becomes(alloc, bytes),
         _ => String::from_str(alloc, "no such call"),
     }
@@ -47,6 +49,49 @@ pub fn front(packets: &mut Packets, text: &mut Vec<u8>) -> Result<Front, AllocEr
         Ok(None) => Ok(Front::Nothing),
         Err(PacketFault::Empty) => Ok(Front::Over),
         Err(PacketFault::NoMemory) => Err(AllocError),
+    }
+}
+
+/// The type and the payload of the packet that bytes are, where it is written as the same bytes.
+fn whole(alloc: Global, bytes: &[u8]) -> Result<String, AllocError> {
+    match Packet::get(alloc, bytes)? {
+        Some(packet) => written(alloc, &packet, bytes),
+        None => String::from_str(alloc, "none"),
+    }
+}
+
+/// The same of a packet that was read from these bytes.
+fn written(alloc: Global, packet: &Packet, bytes: &[u8]) -> Result<String, AllocError> {
+    let mut out = Vec::new(alloc);
+    packet.put(&mut out)?;
+    if out.as_slice() != bytes {
+        return String::from_str(alloc, "written otherwise");
+    }
+    let kind = shown(alloc, &[packet.kind])?;
+    let payload = shown(alloc, packet.payload.as_slice())?;
+    format!(in alloc; "{kind} {payload}")
+}
+
+/// An `S` with so many zeros, written, and read again: its first three bytes, and how many zeros follow them.
+fn zeros(alloc: Global, count: usize) -> Result<String, AllocError> {
+    let payload = vec![in alloc; 0; count]?;
+    if payload.len() > Payload::MOST {
+        return String::from_str(alloc, "too long");
+    }
+    let bytes = of_payload(Payload::of(alloc, payload.as_slice())?).into_bytes()?;
+    let (head, rest) = bytes.as_slice().split_at(bytes.len().min(3));
+    if rest != payload.as_slice() || !has_payload(alloc, bytes.as_slice(), rest)? {
+        return String::from_str(alloc, "otherwise");
+    }
+    let head = shown(alloc, head)?;
+    format!(in alloc; "{head} and {} zeros", rest.len())
+}
+
+/// Whether bytes are an `S` with this payload.
+fn has_payload(alloc: Global, bytes: &[u8], payload: &[u8]) -> Result<bool, AllocError> {
+    match Packet::get(alloc, bytes)? {
+        Some(packet) => Ok(packet.kind == b'S' && packet.payload.as_slice() == payload),
+        None => Ok(false),
     }
 }
 
