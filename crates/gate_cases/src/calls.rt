@@ -7,7 +7,6 @@ use crate::histories::Histories;
 use crate::streams::script_call;
 use case_lines::first_word;
 use std::alloc::{AllocError, Global};
-use std::io::{self, Write};
 
 /// What the calls are on.
 pub struct Calls {
@@ -41,18 +40,23 @@ impl Calls {
         }
     }
 
-    /// Makes the call of a line, and prints the line and what the call shows, if it does; a line that isn't understood
-    /// is printed.
-    pub fn take<W: Write>(&mut self, alloc: Global, line: &str, output: &mut W) -> io::Result<()> {
-        let mut shown = Vec::new(alloc);
-        if !self.call(alloc, line, &mut shown)? {
-            return writeln!(output, "not understood: {line}");
-        }
-        if shown.is_empty() {
+    /// Makes the call of a line, and shows the line and what the call shows, if it does; a line that isn't understood is
+    /// shown.
+    pub fn take(
+        &mut self,
+        alloc: Global,
+        line: &str,
+        shown: &mut Vec<u8>,
+    ) -> Result<(), AllocError> {
+        let mut answer = Vec::new(alloc);
+        if !self.call(alloc, line, &mut answer)? {
+            shown.extend_from_slice(b"not understood: ")?;
+        } else if answer.is_empty() {
             return Ok(());
         }
-        writeln!(output, "{line}")?;
-        output.write_all(shown.as_slice())
+        shown.extend_from_slice(line.as_bytes())?;
+        shown.push(b'\n')?;
+        shown.extend_from_slice(answer.as_slice())
     }
 
     /// Makes the call of a line, and adds what it shows; false where there is none.

@@ -19,7 +19,7 @@ use gate_lines::Flags;
 use ring::show_ring;
 use scripts::{Case, run_again};
 use sections::{Cases, Section};
-use std::io::{self, BufRead, BufReader};
+use std::io::{self, BufRead, BufReader, ErrorKind, Write};
 use std::process::ExitCode;
 use std::sync::Wait;
 use std::{env, fs};
@@ -82,7 +82,9 @@ fn run_numbered(rt: &HostRuntime) -> io::Result<()> {
 fn run_cases<R: Wait>(rt: &HostRuntime, waits: &R, is_mixed: bool) -> io::Result<()> {
     let mut cases = Cases::new(rt.alloc(), is_mixed);
     take_all(rt, waits, &mut cases)?;
-    cases.end(rt.alloc(), &mut io::writer(rt))
+    let mut shown = Vec::new(rt.alloc());
+    cases.end(rt.alloc(), &mut shown)?;
+    io::writer(rt).write_all(shown.as_slice())
 }
 
 /// Does what the lines of standard input say.
@@ -90,32 +92,55 @@ fn take_all<R: Wait>(rt: &HostRuntime, waits: &R, cases: &mut Cases) -> io::Resu
     let alloc = rt.alloc();
     for line in BufReader::new(alloc, rt.reader())?.lines(alloc) {
         let line = line?;
-        take(rt, waits, cases, line.as_str())?;
+        take_line(rt, waits, cases, line.as_str())?;
     }
     Ok(())
 }
 
-/// Does what a line says.
-fn take<R: Wait>(rt: &HostRuntime, waits: &R, cases: &mut Cases, line: &str) -> io::Result<()> {
+/// Does what a line says, and prints what comes of it.
+fn take_line<R: Wait>(
+    rt: &HostRuntime,
+    waits: &R,
+    cases: &mut Cases,
+    line: &str,
+) -> io::Result<()> {
     if line.is_empty() || line.starts_with('#') {
         return Ok(());
     }
+    let mut shown = Vec::new(rt.alloc());
+    take(rt, waits, cases, line, &mut shown)?;
+    io::writer(rt).write_all(shown.as_slice())
+}
+
+/// Does what a line says, and shows what comes of it.
+fn take<R: Wait>(
+    rt: &HostRuntime,
+    waits: &R,
+    cases: &mut Cases,
+    line: &str,
+    shown: &mut Vec<u8>,
+) -> io::Result<()> {
+    let alloc = rt.alloc();
     if let Some(name) = line.strip_prefix("== ") {
-        return cases.begin(rt.alloc(), name, &mut io::writer(rt));
+        return if cases.begin(alloc, name, shown)? {
+            Ok(())
+        } else {
+            Err(io::Error::from(ErrorKind::InvalidData))
+        };
     }
     match cases.section() {
-        Section::Examples => run_example(rt, line),
-        Section::Ring => show_ring(waits, rt.alloc(), &mut io::writer(rt)),
-        _ => cases.take(rt.alloc(), line, &mut io::writer(rt)),
+        Section::Examples => run_example(rt, line, shown),
+        Section::Ring => Ok(show_ring(waits, alloc, shown)?),
+        _ => cases.take(alloc, line, shown),
     }
 }
 
 /// Runs an example, in all ways: the file of this name is a script, and has to print just what the file `NAME.stdout`
 /// says.
-fn run_example(rt: &HostRuntime, name: &str) -> io::Result<()> {
+fn run_example(rt: &HostRuntime, name: &str, shown: &mut Vec<u8>) -> io::Result<()> {
     let alloc = rt.alloc();
     let script = fs::read(rt, name)?;
     let wanted = fs::read(rt, format!(in alloc; "{name}.stdout")?)?;
     let example = Case::whole(alloc, name, script, wanted)?;
-    example.end(alloc, true, &mut io::writer(rt))
+    Ok(example.end(alloc, true, shown)?)
 }

@@ -7,7 +7,6 @@ use desk::{Closed, DeskName, Finished, Inlet, Outlet, Parts, Shared, open_desk};
 use gate_core::{ClientNumber, Event, LinkOut};
 use script_steps::{History, Source, fixed_settings};
 use std::alloc::{AllocError, Global};
-use std::io::{self, Write};
 use std::marker::Brand;
 use std::sync::Wait;
 
@@ -20,12 +19,10 @@ const ROOM: u32 = 1_024;
 /// The client's first link, at moment 0.
 const HERE: Here = Here { link: 1, at: 0 };
 
-/// Fills the ring of the first client, on a desk of the fixed settings, and prints what comes of it.
-pub fn show_ring<R: Wait, W: Write>(rt: &R, alloc: Global, output: &mut W) -> io::Result<()> {
+/// Fills the ring of the first client, on a desk of the fixed settings, and shows what comes of it.
+pub fn show_ring<R: Wait>(rt: &R, alloc: Global, shown: &mut Vec<u8>) -> Result<(), AllocError> {
     let parts = Parts::new(alloc, fixed_settings(alloc)?)?;
-    let mut shown = Vec::with_capacity(alloc, 400_000)?;
-    fill::<Brand, _>(rt, alloc, parts, &mut shown)?;
-    output.write_all(shown.as_slice())
+    fill::<Brand, _>(rt, alloc, parts, shown)
 }
 
 /// A client logs on and sends test requests, a turn after each, and takes nothing until one is held; time goes on

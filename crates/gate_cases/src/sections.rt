@@ -3,8 +3,8 @@
 use crate::calls::Calls;
 use crate::scripts::Case;
 use crate::worlds::Worlds;
-use std::alloc::Global;
-use std::io::{self, ErrorKind, Write};
+use std::alloc::{AllocError, Global};
+use std::io;
 
 /// What the lines of a section are.
 #[derive(Clone, Copy)]
@@ -60,45 +60,50 @@ impl Cases {
         self.section
     }
 
-    /// Begins the section of this name. An error where it is none, or a write fails.
-    pub fn begin<W: Write>(&mut self, alloc: Global, name: &str, output: &mut W) -> io::Result<()> {
+    /// Begins the section of this name, and shows how the case before it ended; false where there is no such section.
+    pub fn begin(
+        &mut self,
+        alloc: Global,
+        name: &str,
+        shown: &mut Vec<u8>,
+    ) -> Result<bool, AllocError> {
         let Some(section) = section_of(name) else {
-            return Err(io::Error::from(ErrorKind::InvalidData));
+            return Ok(false);
         };
-        self.end(alloc, output)?;
         self.section = section;
-        Ok(())
+        self.end(alloc, shown)?;
+        Ok(true)
     }
 
     /// Ends the script's case that is there.
-    pub fn end<W: Write>(&mut self, alloc: Global, output: &mut W) -> io::Result<()> {
-        self.script.end(alloc, self.is_mixed, output)?;
+    pub fn end(&mut self, alloc: Global, shown: &mut Vec<u8>) -> Result<(), AllocError> {
+        self.script.end(alloc, self.is_mixed, shown)?;
         self.script = Case::new(alloc);
         Ok(())
     }
 
-    /// Does what a line says, and prints what comes of it.
-    pub fn take<W: Write>(&mut self, alloc: Global, line: &str, output: &mut W) -> io::Result<()> {
+    /// Does what a line says, and shows what comes of it.
+    pub fn take(&mut self, alloc: Global, line: &str, shown: &mut Vec<u8>) -> io::Result<()> {
         match self.section {
-            Section::Worlds => self.worlds.take(alloc, line, output),
-            Section::Calls => self.calls.take(alloc, line, output),
-            _ => self.take_script(alloc, line, output),
+            Section::Worlds => self.worlds.take(alloc, line, shown),
+            Section::Calls => Ok(self.calls.take(alloc, line, shown)?),
+            _ => Ok(self.take_script(alloc, line, shown)?),
         }
     }
 
     /// Takes a line of a script's case.
-    fn take_script<W: Write>(
+    fn take_script(
         &mut self,
         alloc: Global,
         line: &str,
-        output: &mut W,
-    ) -> io::Result<()> {
+        shown: &mut Vec<u8>,
+    ) -> Result<(), AllocError> {
         match line.strip_prefix("case ") {
             Some(name) => {
-                self.end(alloc, output)?;
-                Ok(self.script.begin(name)?)
+                self.end(alloc, shown)?;
+                self.script.begin(name)
             }
-            None => Ok(self.script.take(alloc, line.as_bytes())?),
+            None => self.script.take(alloc, line.as_bytes()),
         }
     }
 }

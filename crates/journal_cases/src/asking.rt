@@ -94,13 +94,18 @@ fn answer_of(
 /// Shows events: the kind of each, its client or port, its link and its moment.
 fn show_events(events: &[Event], shown: &mut String) -> Result<(), AllocError> {
     for event in events {
-        let (kind, number, link, at) = parts_of(event);
-        match link {
-            Some(link) => write!(shown, " {kind} {number} {link} {at};")?,
-            None => write!(shown, " {kind} {number} {at};")?,
-        }
+        show_event(event, shown)?;
     }
     Ok(())
+}
+
+/// Shows an event.
+fn show_event(event: &Event, shown: &mut String) -> Result<(), AllocError> {
+    let (kind, number, link, at) = parts_of(event);
+    match link {
+        Some(link) => write!(shown, " {kind} {number} {link} {at};"),
+        None => write!(shown, " {kind} {number} {at};"),
+    }
 }
 
 /// The kind of an event, its client's or port's number, its link, which a tick has none of, and its moment.

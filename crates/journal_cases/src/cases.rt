@@ -87,15 +87,21 @@ impl Cases {
         }
     }
 
-    /// Adds bytes to the last page; whether there are some, and there is one.
+    /// Adds bytes to the last page; whether there are some.
     fn add(&mut self, bytes: Option<Vec<u8>>) -> Result<bool, AllocError> {
-        match (bytes, self.pages.last_mut()) {
-            (Some(bytes), Some(page)) => {
-                page.extend_from_slice(bytes.as_slice())?;
-                Ok(true)
-            }
-            _ => Ok(false),
+        match bytes {
+            Some(bytes) => self.add_bytes(bytes.as_slice()),
+            None => Ok(false),
         }
+    }
+
+    /// Adds bytes to the last page; whether there is one.
+    fn add_bytes(&mut self, bytes: &[u8]) -> Result<bool, AllocError> {
+        let Some(page) = self.pages.last_mut() else {
+            return Ok(false);
+        };
+        page.extend_from_slice(bytes)?;
+        Ok(true)
     }
 
     /// Whether the pages are as a line wants them; `None` where it wants nothing.

@@ -28,55 +28,92 @@ pub fn changed_all(
     let mut tally = Tally::new();
     for (number, page) in pages.iter().enumerate() {
         let places = places_of(alloc, page.as_slice())?;
-        for count in 0..count_of(change, page.len(), places.len()) {
-            let parts = parts_of(alloc, change, page.as_slice(), places.as_slice(), count)?;
-            if !parts.is_empty() {
-                let whole = with_parts(alloc, change, pages, number, parts)?;
-                tally.count(outcome(alloc, reader, whole.as_slice())?, number);
+        let (firsts, seconds) = counts_of(change, page.len(), places.len());
+        for first in 0..firsts {
+            for second in 0..seconds {
+                let parts = parts_of(
+                    alloc,
+                    change,
+                    page.as_slice(),
+                    places.as_slice(),
+                    (first, second),
+                )?;
+                count_changed(alloc, reader, change, pages, number, parts, &mut tally)?;
             }
         }
     }
     Ok(tally)
 }
 
-/// How many changes of a kind are tried of a page of so many bytes, with so many places where records begin or end.
-fn count_of(change: Change, size: usize, places: usize) -> usize {
+/// Counts what comes of pages with these in place of the one of a number, where there are some.
+fn count_changed(
+    alloc: Global,
+    reader: Reader,
+    change: Change,
+    pages: &[Vec<u8>],
+    number: usize,
+    parts: Vec<Vec<u8>>,
+    tally: &mut Tally,
+) -> Result<(), AllocError> {
+    if parts.is_empty() {
+        return Ok(());
+    }
+    let whole = with_parts(alloc, change, pages, number, parts)?;
+    tally.count(outcome(alloc, reader, whole.as_slice())?, number);
+    Ok(())
+}
+
+/// How many changes of a kind are tried of a page of so many bytes, with so many places where records begin or end:
+/// places of a byte and its values, ends, places of a record, pairs of places.
+fn counts_of(change: Change, size: usize, places: usize) -> (usize, usize) {
     match change {
-        Change::Bytes => size.saturating_mul(256),
-        Change::Fronts => size,
-        Change::Exchanges => places,
-        Change::Cuts => places.saturating_mul(places),
+        Change::Bytes => (size, 256),
+        Change::Fronts => (size, 1),
+        Change::Exchanges => (places, 1),
+        Change::Cuts => (places, places),
     }
 }
 
-/// What a page becomes by the change of a number: the pages in its place; none where nothing is changed.
+/// What a page becomes by a change: the pages in its place; none where nothing is changed.
 fn parts_of(
     alloc: Global,
     change: Change,
     page: &[u8],
     places: &[usize],
-    number: usize,
+    at: (usize, usize),
 ) -> Result<Vec<Vec<u8>>, AllocError> {
     match change {
-        Change::Bytes => with_byte(alloc, page, number / 256, (number % 256) as u8),
-        Change::Fronts => Ok(vec![in alloc; Vec::from_slice(alloc, between(page, 0, number))?]?),
-        Change::Exchanges => exchanged(alloc, page, &places[number.min(places.len())..]),
-        Change::Cuts => cut(alloc, page, places, number),
+        Change::Bytes => with_byte(alloc, page, at.0, u8::try_from(at.1).unwrap_or(0)),
+        Change::Fronts => one(alloc, between(page, 0, at.0)),
+        Change::Exchanges => exchanged(alloc, page, places.get(at.0..).unwrap_or(&[])),
+        Change::Cuts => cut(alloc, page, places, at),
     }
+}
+
+/// One page.
+fn one(alloc: Global, page: &[u8]) -> Result<Vec<Vec<u8>>, AllocError> {
+    let mut parts = Vec::new(alloc);
+    parts.push(Vec::from_slice(alloc, page)?)?;
+    Ok(parts)
 }
 
 /// A page in which a byte is another.
 fn with_byte(alloc: Global, page: &[u8], at: usize, value: u8) -> Result<Vec<Vec<u8>>, AllocError> {
-    let mut parts = Vec::new(alloc);
     if page.get(at) == Some(&value) {
-        return Ok(parts);
+        return Ok(Vec::new(alloc));
     }
-    let mut other = Vec::from_slice(alloc, page)?;
-    if let Some(byte) = other.get_mut(at) {
+    let mut parts = one(alloc, page)?;
+    if let Some(other) = parts.first_mut() {
+        put_byte(other, at, value);
+    }
+    Ok(parts)
+}
+
+/// A byte is another.
+fn put_byte(page: &mut Vec<u8>, at: usize, value: u8) {
+    if let Some(byte) = page.get_mut(at) {
         *byte = value;
     }
-    parts.push(other)?;
-    Ok(parts)
 }
 
 /// A page in which the record between the first two places stands behind the one that follows it.
@@ -103,21 +140,21 @@ fn joined(alloc: Global, texts: &[&[u8]]) -> Result<Vec<u8>, AllocError> {
     Ok(whole)
 }
 
-/// A page as two, where the places of a number are the same, or as three; none where they are in another order, or no
-/// record stands in front of the first or behind the second.
+/// A page as two, where both places are the same, or as three; none where they are in another order, or no record
+/// stands in front of the first or behind the second.
 fn cut(
     alloc: Global,
     page: &[u8],
     places: &[usize],
-    number: usize,
+    at: (usize, usize),
 ) -> Result<Vec<Vec<u8>>, AllocError> {
-    let count = places.len().max(1);
-    let (first, second) = (number / count, number % count);
-    match (places.get(first), places.get(second)) {
-        (Some(a), Some(b)) if a <= b && *a > front_size(page) && *b < page.len() => {
-            cut_at(alloc, page, (first, *a), (second, *b))
-        }
-        _ => Ok(Vec::new(alloc)),
+    let (Some(a), Some(b)) = (places.get(at.0), places.get(at.1)) else {
+        return Ok(Vec::new(alloc));
+    };
+    if a <= b && *a > front_size(page) && *b < page.len() {
+        cut_at(alloc, page, (at.0, *a), (at.1, *b))
+    } else {
+        Ok(Vec::new(alloc))
     }
 }
 

@@ -113,7 +113,8 @@ pub fn places_of(alloc: Global, page: &[u8]) -> Result<Vec<usize>, AllocError> {
 /// How many bytes the record at a place has: its head, whose last four bytes are its payload's length, and that.
 fn size_at(page: &[u8], at: usize) -> Option<usize> {
     let (_, record) = split(page, at);
-    let (_, size) = record.first_chunk::<HEAD>()?.split_last_chunk::<4>()?;
+    let (_, behind) = record.split_first_chunk::<19>()?;
+    let size = behind.first_chunk::<4>()?;
     Some(HEAD + u32::from_be_bytes(*size) as usize)
 }
 

@@ -15,58 +15,57 @@ pub enum Outcome {
     Other,
 }
 
-/// How many pages were refused, by why, how many were read, and how many otherwise than they are to be.
+/// How many pages were refused, by why, how many were read, and how many otherwise than they are to be: head, kind, cut
+/// short, payload, order, number, read, wrong.
 #[derive(Clone, Copy)]
 pub struct Tally {
-    /// By the place of the fault: head, kind, cut short, payload, order, number.
-    refused: [u64; 6],
-    read: u64,
-    wrong: u64,
+    counts: [u64; 8],
 }
 
 impl Tally {
     /// Nothing was read.
     pub fn new() -> Tally {
-        Tally {
-            refused: [0; 6],
-            read: 0,
-            wrong: 0,
-        }
+        Tally { counts: [0; 8] }
     }
 
     /// Counts what came of pages that are the same as before up to a page of this number, which is refused first.
     pub fn count(&mut self, outcome: Outcome, from: usize) {
-        let counted = match outcome {
-            Outcome::Refused(page, fault) if page as usize >= from => self.refused_for(fault),
-            Outcome::Read => &mut self.read,
-            _ => &mut self.wrong,
-        };
-        *counted = counted.saturating_add(1);
-    }
-
-    /// How many were refused so. Memory isn't to run out.
-    fn refused_for(&mut self, fault: PageFault) -> &mut u64 {
-        let [head, kind, cut_short, payload, order, number] = &mut self.refused;
-        match fault {
-            PageFault::Head => head,
-            PageFault::Kind => kind,
-            PageFault::CutShort => cut_short,
-            PageFault::Payload => payload,
-            PageFault::Order => order,
-            PageFault::Number => number,
-            PageFault::NoMemory => &mut self.wrong,
+        if let Some(count) = self.counts.get_mut(place_of(outcome, from)) {
+            *count = count.saturating_add(1);
         }
+    }
+}
+
+/// Where an outcome is counted.
+fn place_of(outcome: Outcome, from: usize) -> usize {
+    match outcome {
+        Outcome::Refused(page, fault) if page as usize >= from => place_of_fault(fault),
+        Outcome::Read => 6,
+        _ => 7,
+    }
+}
+
+/// Where a fault is counted. Memory isn't to run out.
+fn place_of_fault(fault: PageFault) -> usize {
+    match fault {
+        PageFault::Head => 0,
+        PageFault::Kind => 1,
+        PageFault::CutShort => 2,
+        PageFault::Payload => 3,
+        PageFault::Order => 4,
+        PageFault::Number => 5,
+        PageFault::NoMemory => 7,
     }
 }
 
 impl fmt::Display for Tally {
     fn fmt<W: fmt::Write>(&self, f: &mut fmt::Formatter<W>) -> fmt::Result {
-        let [head, kind, cut_short, payload, order, number] = self.refused;
+        let [head, kind, cut_short, payload, order, number, read, wrong] = self.counts;
         write!(
             f,
             "refused: head {head}, kind {kind}, cut short {cut_short}, "
         )?;
         write!(f, "payload {payload}, order {order}, number {number}")?;
-        write!(f, "; read: {}; wrong: {}", self.read, self.wrong)
+        write!(f, "; read: {read}; wrong: {wrong}")
     }
 }

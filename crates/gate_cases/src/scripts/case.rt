@@ -7,7 +7,6 @@ use gate_lines::{Flags, audit_script, run_script, run_script_with};
 use other_hashers::{Nothing, Seeded};
 use std::alloc::{AllocError, Global};
 use std::hash::BuildHasher;
-use std::io::{self, Write};
 
 /// What is done with a script.
 #[derive(Clone, Copy, PartialEq)]
@@ -125,25 +124,31 @@ impl Case {
 
     /// Ends the case, and says whether all was as it is to be; also with each step undone and made again, and with
     /// lines of others between, where that is asked for.
-    pub fn end<W: Write>(
+    pub fn end(
         &self,
         alloc: Global,
         is_mixed: bool,
-        output: &mut W,
-    ) -> Result<(), io::Error> {
+        shown: &mut Vec<u8>,
+    ) -> Result<(), AllocError> {
         if self.name.is_empty() {
             return Ok(());
         }
-        let is_mixed = is_mixed && self.task == Task::Run;
-        let is_right = self.is_right
-            && self.has_come(alloc)
-            && (!is_mixed || self.is_same_again(alloc) && self.is_apart(alloc)?);
-        output.write_all(self.name.as_slice())?;
-        output.write_all(if is_right {
+        let is_right = self.has_passed(alloc, is_mixed)?;
+        shown.extend_from_slice(self.name.as_slice())?;
+        shown.extend_from_slice(if is_right {
             b": right\n".as_slice()
         } else {
             b": WRONG\n".as_slice()
         })
+    }
+
+    /// Whether all was as it is to be.
+    fn has_passed(&self, alloc: Global, is_mixed: bool) -> Result<bool, AllocError> {
+        if !self.is_right || !self.has_come(alloc) {
+            return Ok(false);
+        }
+        let is_mixed = is_mixed && self.task == Task::Run;
+        Ok(!is_mixed || self.is_same_again(alloc) && self.is_apart(alloc)?)
     }
 
     /// Whether the script, or its audit, prints what it has to, and ends as it is to.

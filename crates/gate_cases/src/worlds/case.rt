@@ -2,15 +2,16 @@
 
 use super::judging::{Named, judge, played_of};
 use super::sender::Sender;
+use super::show;
 use super::sums::Sums;
 use crate::events::{Here, event_of};
 use audit_lines::audit_text;
-use closed_world::{Choice, Event, WorldStep};
+use closed_world::{Choice, Event, History, WorldStep};
 use gate_events::Batch;
 use gate_lines::{Flags, batch_text};
 use random_world::{Played, Settings, world_settings};
 use std::alloc::{AllocError, Global};
-use std::io::{self, ErrorKind, Write};
+use std::io::{self, ErrorKind};
 
 /// How many clients and ports there are in a case: clients 1 and 3 are on port 1, client 2 is on port 2.
 const CLIENTS: u16 = 3;
@@ -54,7 +55,7 @@ impl Case {
     }
 
     /// A step more.
-    pub fn push(&mut self, step: WorldStep) -> io::Result<bool> {
+    pub fn push(&mut self, step: WorldStep) -> Result<bool, AllocError> {
         self.steps.push(step)?;
         Ok(true)
     }
@@ -78,7 +79,7 @@ impl Case {
         word: &str,
         number: u16,
         fields: &str,
-    ) -> io::Result<bool> {
+    ) -> Result<bool, AllocError> {
         match word {
             "log_on" => self.log_on(alloc, number),
             "client" => self.bring_client(alloc, word, number, fields),
@@ -91,7 +92,7 @@ impl Case {
     }
 
     /// A client's next link comes, and it logs on; whether there is such a client.
-    fn log_on(&mut self, alloc: Global, number: u16) -> io::Result<bool> {
+    fn log_on(&mut self, alloc: Global, number: u16) -> Result<bool, AllocError> {
         if let Some(sender) = self.sender(number) {
             sender.go_on();
         }
@@ -106,7 +107,7 @@ impl Case {
         word: &str,
         number: u16,
         fields: &str,
-    ) -> io::Result<bool> {
+    ) -> Result<bool, AllocError> {
         let at = self.at;
         let Some(sender) = self.sender(number) else {
             return Ok(false);
@@ -118,7 +119,7 @@ impl Case {
     }
 
     /// An event of a port on a link that it doesn't have, with a heartbeat where it is a packet.
-    fn bring_port(&mut self, alloc: Global, word: &str, number: u16) -> io::Result<bool> {
+    fn bring_port(&mut self, alloc: Global, word: &str, number: u16) -> Result<bool, AllocError> {
         let here = Here {
             link: OTHER_LINK,
             at: self.at,
@@ -128,7 +129,7 @@ impl Case {
     }
 
     /// A client's event more, where there is one.
-    fn push_event(&mut self, event: Option<Event>) -> io::Result<bool> {
+    fn push_event(&mut self, event: Option<Event>) -> Result<bool, AllocError> {
         match event {
             Some(event) => self.push(WorldStep::Client(event)),
             None => Ok(false),
@@ -140,43 +141,49 @@ impl Case {
         self.senders.get_mut(usize::from(number.checked_sub(1)?))
     }
 
-    /// Plays the case, and prints what came of it.
-    pub fn end<W: Write>(&self, alloc: Global, output: &mut W) -> io::Result<()> {
-        let settings = case_settings(alloc)?;
+    /// Plays the case, and shows what came of it.
+    pub fn end(&self, alloc: Global, settings: &Settings, shown: &mut Vec<u8>) -> io::Result<()> {
         let mut sums = Sums::none();
-        let played = judge(alloc, self.as_played(&settings), &mut sums, output)?;
-        self.tell(alloc, &sums, &played, output)
+        let played = judge(alloc, self.as_played(settings), &mut sums, shown)?;
+        Ok(self.tell(alloc, &sums, &played, shown)?)
     }
 
     /// Plays the case with all that is on its way delivered in the end, without a loss and with one behind each of its
-    /// deliveries in turn, and prints what came of them together, and then of the one without a loss.
-    pub fn end_crossed<W: Write>(&mut self, alloc: Global, output: &mut W) -> io::Result<()> {
+    /// deliveries in turn, and shows what came of them together, and then of the one without a loss.
+    pub fn end_crossed(
+        &mut self,
+        alloc: Global,
+        settings: &Settings,
+        shown: &mut Vec<u8>,
+    ) -> io::Result<()> {
         self.deliver_all()?;
-        let settings = case_settings(alloc)?;
         let mut sums = Sums::none();
-        let played = judge(alloc, self.as_played(&settings), &mut sums, output)?;
-        self.tell_crossed(alloc, &settings, &mut sums, &played, output)
+        let played = judge(alloc, self.as_played(settings), &mut sums, shown)?;
+        self.tell_crossed(alloc, settings, &mut sums, &played, shown)
     }
 
-    /// Plays the case with each loss, and prints what came of all, and of the play without a loss.
-    fn tell_crossed<W: Write>(
+    /// Plays the case with each loss, and shows what came of all, and of the play without a loss.
+    fn tell_crossed(
         &mut self,
         alloc: Global,
         settings: &Settings,
         sums: &mut Sums,
         played: &Played,
-        output: &mut W,
+        shown: &mut Vec<u8>,
     ) -> io::Result<()> {
-        self.cross(alloc, settings, sums, output)?;
-        self.tell(alloc, sums, played, output)
+        self.cross(alloc, settings, sums, shown)?;
+        Ok(self.tell(alloc, sums, played, shown)?)
     }
 
-    /// Plays the case, and prints what links are told, batch by batch.
-    pub fn tell_links<W: Write>(&self, alloc: Global, output: &mut W) -> io::Result<()> {
-        let settings = case_settings(alloc)?;
-        let played = played_of(alloc, self.as_played(&settings))?;
-        let batches = played.history.batches(alloc)?;
-        print_batches(alloc, batches.as_slice(), output)
+    /// Plays the case, and shows what links are told, batch by batch.
+    pub fn tell_links(
+        &self,
+        alloc: Global,
+        settings: &Settings,
+        shown: &mut Vec<u8>,
+    ) -> io::Result<()> {
+        let played = played_of(alloc, self.as_played(settings))?;
+        Ok(show_history(alloc, &played.history, shown)?)
     }
 
     /// The steps so far, to be played.
@@ -189,21 +196,21 @@ impl Case {
         }
     }
 
-    /// Prints what came of the case.
-    fn tell<W: Write>(
+    /// Shows what came of the case.
+    fn tell(
         &self,
         alloc: Global,
         sums: &Sums,
         played: &Played,
-        output: &mut W,
-    ) -> io::Result<()> {
-        output.write_all(self.name.as_slice())?;
-        writeln!(output, ": {sums}")?;
-        output.write_all(audit_text(alloc, played.pairs.as_slice())?.as_slice())
+        shown: &mut Vec<u8>,
+    ) -> Result<(), AllocError> {
+        shown.extend_from_slice(self.name.as_slice())?;
+        show(shown, format!(in alloc; ": {sums}\n")?)?;
+        shown.extend_from_slice(audit_text(alloc, played.pairs.as_slice())?.as_slice())
     }
 
     /// All that is on its way is delivered.
-    fn deliver_all(&mut self) -> io::Result<()> {
+    fn deliver_all(&mut self) -> Result<(), AllocError> {
         for port in 1..PORTS + 1 {
             self.push(WorldStep::Connect(port))?;
         }
@@ -217,18 +224,18 @@ impl Case {
     }
 
     /// Plays the case with a loss behind each of its deliveries in turn.
-    fn cross<W: Write>(
+    fn cross(
         &mut self,
         alloc: Global,
         settings: &Settings,
         sums: &mut Sums,
-        output: &mut W,
+        shown: &mut Vec<u8>,
     ) -> io::Result<()> {
         for place in 0..self.steps.len() {
             if let Some(port) = self.delivery_at(place) {
                 self.insert_behind(place, WorldStep::Connect(port))?;
                 self.insert_behind(place, WorldStep::Lose(port))?;
-                let _played = judge(alloc, self.as_played(settings), sums, output)?;
+                let _played = judge(alloc, self.as_played(settings), sums, shown)?;
                 self.remove_behind(place);
                 self.remove_behind(place);
             }
@@ -246,7 +253,7 @@ impl Case {
     }
 
     /// A step more behind the one at a place, where there is one.
-    fn insert_behind(&mut self, place: usize, step: WorldStep) -> io::Result<()> {
+    fn insert_behind(&mut self, place: usize, step: WorldStep) -> Result<(), AllocError> {
         if place < self.steps.len() {
             self.steps.insert(place + 1, step)?;
         }
@@ -261,21 +268,27 @@ impl Case {
     }
 }
 
-/// Prints what links are told, batch by batch.
-fn print_batches<W: Write>(alloc: Global, batches: &[Batch], output: &mut W) -> io::Result<()> {
+/// Shows what links are told in a history.
+fn show_history(alloc: Global, history: &History, shown: &mut Vec<u8>) -> Result<(), AllocError> {
+    let batches = history.batches(alloc)?;
+    show_batches(alloc, batches.as_slice(), shown)
+}
+
+/// Shows what links are told, batch by batch.
+fn show_batches(alloc: Global, batches: &[Batch], shown: &mut Vec<u8>) -> Result<(), AllocError> {
     let flags = Flags {
         num: false,
         raw: false,
         cold: false,
     };
     for batch in batches {
-        output.write_all(batch_text(alloc, flags, batch)?.as_slice())?;
+        shown.extend_from_slice(batch_text(alloc, flags, batch)?.as_slice())?;
     }
     Ok(())
 }
 
 /// The settings of each case.
-fn case_settings(alloc: Global) -> io::Result<Settings> {
+pub fn case_settings(alloc: Global) -> io::Result<Settings> {
     match world_settings(alloc, CLIENTS, PORTS)? {
         Some(settings) => Ok(settings),
         None => Err(io::Error::from(ErrorKind::InvalidData)),

@@ -1,10 +1,11 @@
 //! Steps, played and judged.
 
 use super::order::judge_orders;
+use super::show;
 use super::sums::Sums;
 use random_world::{Played, ReadingFault, Settings, WorldStep, counts_of, play};
-use std::alloc::Global;
-use std::io::{self, ErrorKind, Write};
+use std::alloc::{AllocError, Global};
+use std::io::{self, ErrorKind};
 
 /// Steps to be played, and their name.
 #[derive(Clone, Copy)]
@@ -17,32 +18,32 @@ pub struct Named<'a> {
 }
 
 /// Plays steps, and adds what came of them to sums. What isn't right has a line of its own, behind the name.
-pub fn judge<W: Write>(
+pub fn judge(
     alloc: Global,
     named: Named<'_>,
     sums: &mut Sums,
-    output: &mut W,
+    shown: &mut Vec<u8>,
 ) -> io::Result<Played> {
     let played = played_of(alloc, named)?;
-    judge_played(alloc, named, &played, sums, output)?;
+    judge_played(alloc, named, &played, sums, shown)?;
     Ok(played)
 }
 
 /// The same of what came of them.
-fn judge_played<W: Write>(
+fn judge_played(
     alloc: Global,
     named: Named<'_>,
     played: &Played,
     sums: &mut Sums,
-    output: &mut W,
-) -> io::Result<()> {
+    shown: &mut Vec<u8>,
+) -> Result<(), AllocError> {
     let counts = counts_of(alloc, named.counted, played)?;
     if !counts.is_right() {
-        output.write_all(named.name)?;
-        writeln!(output, ": {counts}")?;
+        shown.extend_from_slice(named.name)?;
+        show(shown, format!(in alloc; ": {counts}\n")?)?;
     }
     sums.add(&counts);
-    judge_orders(alloc, named.name, played, sums, output)
+    judge_orders(alloc, named.name, played, sums, shown)
 }
 
 /// What comes of steps.

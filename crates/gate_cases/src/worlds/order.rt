@@ -7,7 +7,6 @@ use fix_fields::FieldsView;
 use gate_events::{Batch, ClientFrame, Event, LinkOut};
 use random_world::{BookRow, Played};
 use std::alloc::{AllocError, Global};
-use std::io::{self, Write};
 
 /// An order, as its client's accepted messages and the reports have it.
 #[derive(Drop)]
@@ -27,17 +26,17 @@ struct Order {
 }
 
 /// Judges the orders of a play.
-pub fn judge_orders<W: Write>(
+pub fn judge_orders(
     alloc: Global,
     name: &[u8],
     played: &Played,
     sums: &mut Sums,
-    output: &mut W,
-) -> io::Result<()> {
+    shown: &mut Vec<u8>,
+) -> Result<(), AllocError> {
     let events = played.history.events(alloc)?;
     let batches = played.history.batches(alloc)?;
     let orders = heard(alloc, events.as_slice(), batches.as_slice(), sums)?;
-    judge_all(name, orders.as_slice(), played, sums, output)
+    judge_all(name, orders.as_slice(), played, sums, shown)
 }
 
 /// The orders that events with their batches tell of.
@@ -46,7 +45,7 @@ fn heard(
     events: &[Event],
     batches: &[Batch],
     sums: &mut Sums,
-) -> io::Result<Vec<Order>> {
+) -> Result<Vec<Order>, AllocError> {
     let mut orders = Vec::new(alloc);
     for (event, batch) in events.iter().zip(batches) {
         hear(alloc, event, batch, &mut orders, sums)?;
@@ -55,17 +54,17 @@ fn heard(
 }
 
 /// Judges each of the orders that a play has a book of.
-fn judge_all<W: Write>(
+fn judge_all(
     name: &[u8],
     orders: &[Order],
     played: &Played,
     sums: &mut Sums,
-    output: &mut W,
-) -> io::Result<()> {
+    shown: &mut Vec<u8>,
+) -> Result<(), AllocError> {
     for (pair, book) in played.pairs.iter().zip(played.books.as_slice()) {
         for order in orders {
             if order.client == pair.client && order.id.as_slice() == pair.id.as_slice() {
-                judge_order(name, order, book, sums, output)?;
+                judge_order(name, order, book, sums, shown)?;
             }
         }
     }
@@ -73,16 +72,16 @@ fn judge_all<W: Write>(
 }
 
 /// Judges an order by its market's book.
-fn judge_order<W: Write>(
+fn judge_order(
     name: &[u8],
     order: &Order,
     book: &BookRow,
     sums: &mut Sums,
-    output: &mut W,
-) -> io::Result<()> {
+    shown: &mut Vec<u8>,
+) -> Result<(), AllocError> {
     if book.executed.saturating_add(book.unfilled) > order.greatest {
         add(&mut sums.over, 1);
-        tell(name, "more than was asked", output)?;
+        tell(name, b": more than was asked\n", shown)?;
     }
     if !order.is_fill_or_kill || order.is_replaced {
         return Ok(());
@@ -92,16 +91,15 @@ fn judge_order<W: Write>(
         add(&mut sums.filled, 1);
     } else if book.executed != 0 {
         add(&mut sums.partly, 1);
-        tell(name, "filled in part", output)?;
+        tell(name, b": filled in part\n", shown)?;
     }
     Ok(())
 }
 
 /// A line of a play that isn't right.
-fn tell<W: Write>(name: &[u8], what: &str, output: &mut W) -> io::Result<()> {
-    output.write_all(name)?;
-    writeln!(output, ": {what}")?;
-    Ok(())
+fn tell(name: &[u8], what: &[u8], shown: &mut Vec<u8>) -> Result<(), AllocError> {
+    shown.extend_from_slice(name)?;
+    shown.extend_from_slice(what)
 }
 
 /// What an event with its batch tells.
@@ -111,7 +109,7 @@ fn hear(
     batch: &Batch,
     orders: &mut Vec<Order>,
     sums: &mut Sums,
-) -> io::Result<()> {
+) -> Result<(), AllocError> {
     count_closed(event, batch, sums);
     let Some(client) = batch.client else {
         return Ok(());
@@ -144,7 +142,7 @@ fn hear_report(
     fields: &FieldsView<'_>,
     orders: &mut Vec<Order>,
     sums: &mut Sums,
-) -> io::Result<()> {
+) -> Result<(), AllocError> {
     let (order, id) = (value(fields, 37), value(fields, 11));
     match value(fields, 150) {
         b"A" => orders.push(opened(alloc, event, client, order, id)?)?,

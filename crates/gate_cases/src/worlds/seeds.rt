@@ -1,15 +1,16 @@
 //! Worlds of seeds.
 
 use super::judging::{Named, judge};
+use super::show;
 use super::sums::Sums;
 use decimal_digits::number_of;
 use random_world::{Shape, random_steps, show_world, world_settings};
 use std::alloc::{AllocError, Global};
-use std::io::{self, Write};
+use std::io;
 
 /// `FIRST LAST STEPS CLIENTS PORTS`: the worlds of these seeds, and a line of sums; false where the text isn't so. A
 /// world that isn't right has a line of its own in front.
-pub fn run_seeds<W: Write>(alloc: Global, text: &str, output: &mut W) -> io::Result<bool> {
+pub fn run_seeds(alloc: Global, text: &str, shown: &mut Vec<u8>) -> io::Result<bool> {
     let Some(numbers) = numbers_in(alloc, text)? else {
         return Ok(false);
     };
@@ -21,17 +22,17 @@ pub fn run_seeds<W: Write>(alloc: Global, text: &str, output: &mut W) -> io::Res
         let Some(shape) = shape_of(seed, *steps, *clients, *ports) else {
             return Ok(false);
         };
-        if !run_seed(alloc, &shape, &mut sums, output)? {
+        if !run_seed(alloc, &shape, &mut sums, shown)? {
             return Ok(false);
         }
     }
-    writeln!(output, "{sums}")?;
+    show(shown, format!(in alloc; "{sums}\n")?)?;
     Ok(true)
 }
 
 /// `SEED STEPS CLIENTS PORTS`: what `gateway world` prints of this world, what it tells on standard error, and its
 /// status; false where the text isn't so.
-pub fn show_seed<W: Write>(alloc: Global, text: &str, output: &mut W) -> io::Result<bool> {
+pub fn show_seed(alloc: Global, text: &str, shown: &mut Vec<u8>) -> io::Result<bool> {
     let Some(numbers) = numbers_in(alloc, text)? else {
         return Ok(false);
     };
@@ -42,9 +43,9 @@ pub fn show_seed<W: Write>(alloc: Global, text: &str, output: &mut W) -> io::Res
         return Ok(false);
     };
     let mut faults = Vec::new(alloc);
-    let status = show_world(alloc, &shape, output, &mut faults);
-    output.write_all(faults.as_slice())?;
-    writeln!(output, "status {status}")?;
+    let status = show_world(alloc, &shape, shown, &mut faults);
+    shown.extend_from_slice(faults.as_slice())?;
+    show(shown, format!(in alloc; "status {status}\n")?)?;
     Ok(true)
 }
 
@@ -71,11 +72,11 @@ fn shape_of(seed: u64, steps: u64, clients: u64, ports: u64) -> Option<Shape> {
 }
 
 /// The world of a seed; false where there are no such settings.
-fn run_seed<W: Write>(
+fn run_seed(
     alloc: Global,
     shape: &Shape,
     sums: &mut Sums,
-    output: &mut W,
+    shown: &mut Vec<u8>,
 ) -> io::Result<bool> {
     let Some(settings) = world_settings(alloc, shape.clients, shape.ports)? else {
         return Ok(false);
@@ -88,6 +89,6 @@ fn run_seed<W: Write>(
         steps: steps.as_slice(),
         counted: u64::from(shape.steps),
     };
-    let _played = judge(alloc, named, sums, output)?;
+    let _played = judge(alloc, named, sums, shown)?;
     Ok(true)
 }

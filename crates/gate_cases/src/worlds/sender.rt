@@ -3,8 +3,7 @@
 ghost use Rattle.std.specs.Prelude.{◌≤◌, length};
 
 use fix_stamp::stamp;
-use std::alloc::Global;
-use std::io::{self, Write};
+use std::alloc::{AllocError, Global};
 
 /// A client's link, and the number of its next message.
 #[derive(Clone, Copy)]
@@ -32,7 +31,7 @@ impl Sender {
         number: u16,
         fields: &[u8],
         at: u64,
-    ) -> io::Result<Vec<u8>> {
+    ) -> Result<Vec<u8>, AllocError> {
         let mut text = Vec::new(alloc);
         if fields.is_empty() {
             return Ok(text);
@@ -40,9 +39,10 @@ impl Sender {
         let head = end_of_first(fields);
         push_fields(&mut text, &fields[..head])?;
         let next = self.next;
-        write!(text, "49=C{number}\x0156=GATE\x0134={next}\x0152=")?;
+        let names = format!(in alloc; "49=C{number}\x0156=GATE\x0134={next}\x0152=")?;
+        text.extend_from_slice(names.as_bytes())?;
         text.extend_from_slice(&stamp(at))?;
-        text.extend_from_slice(b"\x01")?;
+        text.push(1)?;
         push_fields(&mut text, &fields[head..])?;
         self.next = next.saturating_add(1);
         Ok(text)
@@ -60,7 +60,7 @@ fn end_of_first(fields: &[u8]) -> usize
 }
 
 /// Fields with SOH for each `|`.
-fn push_fields(text: &mut Vec<u8>, fields: &[u8]) -> io::Result<()> {
+fn push_fields(text: &mut Vec<u8>, fields: &[u8]) -> Result<(), AllocError> {
     for byte in fields {
         let byte = if *byte == b'|' { 1 } else { *byte };
         text.push(byte)?;
