@@ -3,11 +3,11 @@
 #
 #     scripts/refuse-calls-in-cases.sh [PROGRAM [INPUT]]
 #
-# PROGRAM is session_cases, which is meant where none is named, link_cases, desk_retries, gate_script, gate_cases, which undoes each step of the script
-# INPUT and makes it again, or gateway, which audits the script INPUT.
+# PROGRAM is session_cases, which is meant where none is named, link_cases, gate_script, gate_cases, which undoes each step of the script INPUT and makes it
+# again, ring, which is gate_cases that fills a client's ring, or gateway, which audits the script INPUT.
 # From the environment KIND says which calls: with `memory`, which is meant where none is said, run N of the program refuses its Nth malloc or realloc, and no
 # other; with `io` its Nth read or write fails; with `short` its Nth read or write of several bytes moves one of them. session_cases makes a session's
-# call again where it answers that memory is wanting, gate_cases a step of the whole core, desk_retries a turn of the desk and its end. So a run may
+# call again where it answers that memory is wanting, gate_cases a step of the whole core, ring a turn of the desk and its end. So a run may
 #
 #   end as without a refusal        what was wanting was asked again, or wasn't needed: "the same"; with `short` each run has to
 #   end with status 1 and words     memory was wanting, or a read or write failed: "reported". What it printed has no case that is wrong, and of
@@ -22,20 +22,24 @@ set -euo pipefail
 
 repository=$(dirname "$(cd "$(dirname "${BASH_SOURCE[0]}")" && pwd)")
 name=${1:-session_cases}
-program=$repository/crates/$name/out/$name
+crate=$name
+if [ "$name" = ring ]; then
+    crate=gate_cases
+fi
+program=$repository/crates/$crate/out/$crate
 words=()
-cases=${2:-$repository/crates/$name/stdin}
+cases=${2:-$repository/crates/$crate/stdin}
 if [ "$name" = gateway ]; then
     cases=${2:-$repository/crates/gateway/data/day.script}
     words=(audit --script "$cases")
 fi
 case_script() {
-    awk '/^case /{ is_meant = /^case the script for refused requests for memory: / } is_meant && !/^(case|--|->)/' "$repository/crates/gate_cases/stdin"
+    awk '/^(case|==) /{ is_meant = /^case the script for refused requests for memory: / } is_meant && !/^(case|--|->)/' "$repository/crates/gate_cases/stdin"
 }
 at_most=${AT_MOST:-100000}
 kind=${KIND:-memory}
 if [ ! -x "$program" ]; then
-    echo "build the program first: rt run in crates/$name" >&2
+    echo "build the program first: rt run in crates/$crate" >&2
     exit 2
 fi
 
@@ -43,6 +47,10 @@ work=$(mktemp -d "${TMPDIR:-/tmp}/refuse-calls-in-cases.XXXXXX")
 trap 'rm -rf "$work"' EXIT
 trap 'exit 130' INT TERM
 
+if [ "$name" = ring ] && [ -z "${2:-}" ]; then
+    cases=$work/ring
+    printf '== ring\nfill\n' > "$cases"
+fi
 if [ "$name" = gate_cases ]; then
     words=(again)
     if [ -z "${2:-}" ]; then

@@ -1,24 +1,31 @@
-//! Runs cases of scripts, those of standard input and then the examples that the command line names, and prints a
-//! verdict for each. `README.md` has what a line of the input may say. With a word on the command line each script is
-//! also run with lines of others between its own; the words behind it are the examples: of each the folder has the
-//! files `NAME`, a script, and `NAME.stdout`, what it prints. With the word `again` alone standard input is one script,
-//! of which each step is undone and made again.
+//! Runs cases of the gateway's core, scripts among them, and prints what comes of each: a verdict, or what it shows.
+//! `README.md` has what a line of the input may say. With a word on the command line each script is also run with lines
+//! of others between its own, and with each step undone and made again. With the word `again` alone standard input is
+//! one script, of which each step is undone and made again.
 #![tactic(auto)]
 
-mod again;
-mod between;
-mod case;
-mod said;
+mod accounts;
+mod calls;
+mod days;
+mod events;
+mod histories;
+mod ring;
+mod scripts;
+mod sections;
+mod streams;
+mod worlds;
 
-use again::run_again;
-use case::Case;
 use gate_lines::Flags;
-use std::io::{self, BufRead, BufReader};
+use ring::show_ring;
+use scripts::{Case, run_again};
+use sections::{Cases, Section};
+use std::io::{self, BufRead, BufReader, ErrorKind, Write};
 use std::process::ExitCode;
+use std::sync::Wait;
 use std::{env, fs};
 
 fn main(rt: HostRuntime) -> ExitCode {
-    match run(&rt) {
+    match run(&rt, &rt) {
         Ok(()) => ExitCode::SUCCESS,
         Err(_) => {
             let _ = rt.eprintln(
@@ -29,20 +36,36 @@ fn main(rt: HostRuntime) -> ExitCode {
     }
 }
 
-fn run(rt: &HostRuntime) -> io::Result<()> {
+/// What the command line asks for.
+#[derive(Clone, Copy)]
+enum Asked {
+    /// The cases of standard input.
+    Cases,
+    /// The same, each script in all ways.
+    InAllWays,
+    /// The script of standard input, each step made again.
+    Again,
+}
+
+fn run<R: Wait>(rt: &HostRuntime, waits: &R) -> io::Result<()> {
+    match asked_by_words(rt)? {
+        Asked::Cases => run_cases(rt, waits, false),
+        Asked::InAllWays => run_cases(rt, waits, true),
+        Asked::Again => run_numbered(rt),
+    }
+}
+
+fn asked_by_words(rt: &HostRuntime) -> io::Result<Asked> {
     let mut words = env::args(rt)?;
     let _program = words.next();
-    let Some(word) = words.next() else {
-        return run_cases(rt, false);
-    };
-    if word.as_str() == "again" {
-        return run_numbered(rt);
-    }
-    run_cases(rt, true)?;
-    for name in words {
-        run_example(rt, name.as_str())?;
-    }
-    Ok(())
+    Ok(match words.next() {
+        None => Asked::Cases,
+        Some(word) => if word.as_str() == "again" {
+            Asked::Again
+        } else {
+            Asked::InAllWays
+        },
+    })
 }
 
 /// Steps the script of standard input again, and prints what it tells, with the numbers of frames.
@@ -56,26 +79,68 @@ fn run_numbered(rt: &HostRuntime) -> io::Result<()> {
 }
 
 /// Runs the cases of standard input.
-fn run_cases(rt: &HostRuntime, is_mixed: bool) -> io::Result<()> {
-    let alloc = rt.alloc();
-    let mut case = Case::new(alloc);
-    for line in BufReader::new(alloc, rt.reader())?.lines(alloc) {
-        let line = line?;
-        if let Some(name) = line.as_str().strip_prefix("case ") {
-            case.end(alloc, is_mixed, &mut io::writer(rt))?;
-            case = Case::named(alloc, name.as_bytes())?;
-        } else {
-            case.take(alloc, line.as_str().as_bytes())?;
-        }
-    }
-    case.end(alloc, is_mixed, &mut io::writer(rt))
+fn run_cases<R: Wait>(rt: &HostRuntime, waits: &R, is_mixed: bool) -> io::Result<()> {
+    let mut cases = Cases::new(rt.alloc(), is_mixed);
+    take_all(rt, waits, &mut cases)?;
+    let mut shown = Vec::new(rt.alloc());
+    cases.end(rt.alloc(), &mut shown)?;
+    io::writer(rt).write_all(shown.as_slice())
 }
 
-/// Runs an example, which has to print just what stands beside it; with lines of others between its own, too.
-fn run_example(rt: &HostRuntime, name: &str) -> io::Result<()> {
+/// Does what the lines of standard input say.
+fn take_all<R: Wait>(rt: &HostRuntime, waits: &R, cases: &mut Cases) -> io::Result<()> {
+    let alloc = rt.alloc();
+    for line in BufReader::new(alloc, rt.reader())?.lines(alloc) {
+        let line = line?;
+        take_line(rt, waits, cases, line.as_str())?;
+    }
+    Ok(())
+}
+
+/// Does what a line says, and prints what comes of it.
+fn take_line<R: Wait>(
+    rt: &HostRuntime,
+    waits: &R,
+    cases: &mut Cases,
+    line: &str,
+) -> io::Result<()> {
+    if line.is_empty() || line.starts_with('#') {
+        return Ok(());
+    }
+    let mut shown = Vec::new(rt.alloc());
+    take(rt, waits, cases, line, &mut shown)?;
+    io::writer(rt).write_all(shown.as_slice())
+}
+
+/// Does what a line says, and shows what comes of it.
+fn take<R: Wait>(
+    rt: &HostRuntime,
+    waits: &R,
+    cases: &mut Cases,
+    line: &str,
+    shown: &mut Vec<u8>,
+) -> io::Result<()> {
+    let alloc = rt.alloc();
+    if let Some(name) = line.strip_prefix("== ") {
+        return if cases.begin(alloc, name, shown)? {
+            Ok(())
+        } else {
+            Err(io::Error::from(ErrorKind::InvalidData))
+        };
+    }
+    match cases.section() {
+        Section::Examples => run_example(rt, line, shown),
+        Section::Ring => Ok(show_ring(waits, alloc, shown)?),
+        _ => cases.take(alloc, line, shown),
+    }
+}
+
+/// Runs an example, in all ways: the file of this name is a script, and has to print just what the file `NAME.stdout`
+/// says.
+fn run_example(rt: &HostRuntime, name: &str, shown: &mut Vec<u8>) -> io::Result<()> {
     let alloc = rt.alloc();
     let script = fs::read(rt, name)?;
     let wanted = fs::read(rt, format!(in alloc; "{name}.stdout")?)?;
-    let example = Case::whole(alloc, name.as_bytes(), script, wanted)?;
-    example.end(alloc, true, &mut io::writer(rt))
+    let example = Case::whole(alloc, name, script, wanted)?;
+    Ok(example.end(alloc, true, shown)?)
 }

@@ -1,12 +1,12 @@
 //! What a history answers that pages are.
 
 use crate::reading::pushed_again;
-use crate::words::{first_number, first_word};
+use crate::words::first_number;
+use case_lines::first_word;
 use gate_journal::{
     Batch, ClientNumber, Event, History, LinkOut, PortNumber, Recipient, Source, Told,
 };
 use std::alloc::{AllocError, Global};
-use std::io::{self, Write};
 use std::str;
 
 /// What a history is asked for.
@@ -63,117 +63,112 @@ fn numbered(text: &str) -> Option<(&str, u16)> {
     Some((word, u16::try_from(number).ok()?))
 }
 
-/// Prints what the history answers that pages are.
-pub fn answer<W: Write>(
+/// Shows what the history answers that pages are.
+pub fn answer(
     alloc: Global,
     question: Question,
     pages: &[Vec<u8>],
-    output: &mut W,
-) -> io::Result<()> {
+    shown: &mut String,
+) -> Result<(), AllocError> {
     match History::read(alloc, pages) {
-        Ok(history) => answer_of(alloc, question, &history, output),
-        Err(_) => output.write_all(b" no history"),
+        Ok(history) => answer_of(alloc, question, &history, shown),
+        Err(_) => shown.push_str(" no history"),
     }
 }
 
-/// Prints what a history answers.
-fn answer_of<W: Write>(
+/// Shows what a history answers.
+fn answer_of(
     alloc: Global,
     question: Question,
     history: &History,
-    output: &mut W,
-) -> io::Result<()> {
+    shown: &mut String,
+) -> Result<(), AllocError> {
     match question {
-        Question::From(source) => print_events(history.from(alloc, source)?.as_slice(), output),
-        Question::To(recipient) => print_lists(history.to(alloc, recipient)?.as_slice(), output),
-        Question::Faults => print_faults(history.batches(alloc)?.as_slice(), output),
-        Question::Sizes => print_sizes(alloc, history, output),
+        Question::From(source) => show_events(history.from(alloc, source)?.as_slice(), shown),
+        Question::To(recipient) => show_lists(history.to(alloc, recipient)?.as_slice(), shown),
+        Question::Faults => show_faults(history.batches(alloc)?.as_slice(), shown),
+        Question::Sizes => show_sizes(alloc, history, shown),
     }
 }
 
-/// Prints events: the kind of each, its client or port, its link and its moment.
-fn print_events<W: Write>(events: &[Event], output: &mut W) -> io::Result<()> {
+/// Shows events: the kind of each, its client or port, its link and its moment.
+fn show_events(events: &[Event], shown: &mut String) -> Result<(), AllocError> {
     for event in events {
-        print_event(event, output)?;
+        show_event(event, shown)?;
     }
     Ok(())
 }
 
-/// Prints an event.
-fn print_event<W: Write>(event: &Event, output: &mut W) -> io::Result<()> {
+/// Shows an event.
+fn show_event(event: &Event, shown: &mut String) -> Result<(), AllocError> {
+    let (kind, number, link, at) = parts_of(event);
+    match link {
+        Some(link) => write!(shown, " {kind} {number} {link} {at};"),
+        None => write!(shown, " {kind} {number} {at};"),
+    }
+}
+
+/// The kind of an event, its client's or port's number, its link, which a tick has none of, and its moment.
+fn parts_of(event: &Event) -> (&'static str, u16, Option<u64>, u64) {
     match event {
-        Event::ClientUp { client, link, at } => write!(
-            output,
-            " ClientUp {} {link} {at};",
-            client.number()
-        ),
+        Event::ClientUp { client, link, at } => ("ClientUp", client.number(), Some(*link), *at),
         Event::ClientMessage {
             client,
             link,
             at,
             ..
-        } => { write!(output, " ClientMessage {} {link} {at};", client.number()) }
-        Event::ClientGone { client, link, at } => {
-            write!(output, " ClientGone {} {link} {at};", client.number())
-        }
-        Event::PortUp { port, link, at } => write!(
-            output,
-            " PortUp {} {link} {at};",
-            port.number()
-        ),
+        } => ("ClientMessage", client.number(), Some(*link), *at),
+        Event::ClientGone { client, link, at } => ("ClientGone", client.number(), Some(*link), *at),
+        Event::PortUp { port, link, at } => ("PortUp", port.number(), Some(*link), *at),
         Event::PortPacket { port, link, at, .. } => {
-            write!(output, " PortPacket {} {link} {at};", port.number())
+            ("PortPacket", port.number(), Some(*link), *at)
         }
-        Event::PortGone { port, link, at } => write!(
-            output,
-            " PortGone {} {link} {at};",
-            port.number()
-        ),
-        Event::ClientTick { client, at } => write!(output, " ClientTick {} {at};", client.number()),
-        Event::PortTick { port, at } => write!(output, " PortTick {} {at};", port.number()),
+        Event::PortGone { port, link, at } => ("PortGone", port.number(), Some(*link), *at),
+        Event::ClientTick { client, at } => ("ClientTick", client.number(), None, *at),
+        Event::PortTick { port, at } => ("PortTick", port.number(), None, *at),
     }
 }
 
-/// Prints lists, each in brackets.
-fn print_lists<W: Write>(lists: &[Told], output: &mut W) -> io::Result<()> {
+/// Shows lists, each in brackets.
+fn show_lists(lists: &[Told], shown: &mut String) -> Result<(), AllocError> {
     for list in lists {
-        output.write_all(b" [")?;
-        print_list(list.as_slice(), output)?;
-        output.write_all(b" ]")?;
+        shown.push_str(" [")?;
+        show_list(list.as_slice(), shown)?;
+        shown.push_str(" ]")?;
     }
     Ok(())
 }
 
-/// Prints what a list tells links.
-fn print_list<W: Write>(list: &[LinkOut], output: &mut W) -> io::Result<()> {
+/// Shows what a list tells links.
+fn show_list(list: &[LinkOut], shown: &mut String) -> Result<(), AllocError> {
     for out in list {
         match out {
             LinkOut::Write { link, bytes } => {
                 let text = str::from_utf8(bytes.as_slice()).unwrap_or("no text");
-                write!(output, " write {link} {text};")?;
+                write!(shown, " write {link} {text};")?;
             }
-            LinkOut::Close { link } => write!(output, " close {link};")?,
+            LinkOut::Close { link } => write!(shown, " close {link};")?,
         }
     }
     Ok(())
 }
 
-/// Prints the faults of batches.
-fn print_faults<W: Write>(batches: &[Batch], output: &mut W) -> io::Result<()> {
+/// Shows the faults of batches.
+fn show_faults(batches: &[Batch], shown: &mut String) -> Result<(), AllocError> {
     for batch in batches {
         match batch.fault {
-            Some(fault) => write!(output, " {fault:?};")?,
-            None => output.write_all(b" none;")?,
+            Some(fault) => write!(shown, " {fault:?};")?,
+            None => shown.push_str(" none;")?,
         }
     }
     Ok(())
 }
 
-/// Prints how many events a history has, and how long their pages are, pushed again.
-fn print_sizes<W: Write>(alloc: Global, history: &History, output: &mut W) -> io::Result<()> {
-    write!(output, " {} events;", history.events(alloc)?.len())?;
+/// Shows how many events a history has, and how long their pages are, pushed again.
+fn show_sizes(alloc: Global, history: &History, shown: &mut String) -> Result<(), AllocError> {
+    write!(shown, " {} events;", history.events(alloc)?.len())?;
     for page in pushed_again(alloc, history)?.pages() {
-        write!(output, " {} bytes;", page.len())?;
+        write!(shown, " {} bytes;", page.len())?;
     }
     Ok(())
 }

@@ -1,21 +1,31 @@
 //! The lines of the cases, one after another.
 
-use crate::asking::{Question, answer, is_kept, question_of};
+use crate::asking::{answer, is_kept, question_of};
 use crate::changing::{Change, changed_all};
 use crate::reading::{Reader, outcome};
 use crate::records::{record_said, ticks_said};
 use crate::resending::is_resend_whole;
 use crate::tally::Outcome;
-use crate::words::{bytes_said, fault_named, first_number, first_word};
+use crate::words::{bytes_said, fault_named, first_number};
+use case_lines::first_word;
 use std::alloc::{AllocError, Global};
-use std::io::{self, Write};
 
 /// The pages of a case, as far as its lines have written them.
-#[derive(Drop)]
 pub struct Cases {
     name: String,
     reader: Reader,
     pages: Vec<Vec<u8>>,
+}
+
+/// Written by hand, so that one call drops all.
+impl Drop for Cases {
+    fn drop(self) {
+        let Cases {
+            name: _,
+            reader: _,
+            pages: _,
+        } = self;
+    }
 }
 
 impl Cases {
@@ -28,31 +38,21 @@ impl Cases {
         }
     }
 
-    /// Does what a line says, and prints what comes of it.
-    pub fn step<W: Write>(&mut self, alloc: Global, text: &str, output: &mut W) -> io::Result<()> {
-        if text.is_empty() || text.starts_with('#') {
-            return Ok(());
-        }
+    /// Does what a line says, and shows what comes of it.
+    pub fn step(
+        &mut self,
+        alloc: Global,
+        text: &str,
+        shown: &mut String,
+    ) -> Result<(), AllocError> {
         let (word, rest) = first_word(text);
-        if let Some(change) = change_named(word) {
-            return self.change(alloc, change, word, output);
-        }
-        if let Some(wanted) = wanted(word, rest) {
-            return self.judge(alloc, wanted, output);
-        }
-        if let Some(question) = question_of(word, rest) {
-            return self.ask(alloc, question, text, output);
-        }
-        if word == "kept" {
-            return self.compare(alloc, rest, output);
-        }
-        if word == "resend" {
-            return self.tell(is_resend_whole(alloc)?, output);
-        }
-        if self.write(alloc, word, rest)? {
+        if self.write(alloc, word, rest)? || self.change(alloc, word, shown)? {
             return Ok(());
         }
-        writeln!(output, "not understood: {text}")
+        match self.verdict(alloc, word, rest)? {
+            Some(is_right) => self.tell(is_right, shown),
+            None => self.ask(alloc, text, shown),
+        }
     }
 
     /// Writes what a line has of a case; whether it is such a line.
@@ -72,7 +72,7 @@ impl Cases {
     fn begin(&mut self, alloc: Global, reader: Reader, name: &str) -> Result<bool, AllocError> {
         self.name = String::from_str(alloc, name)?;
         self.reader = reader;
-        self.pages = Vec::new(alloc);
+        self.pages.clear();
         Ok(true)
     }
 
@@ -104,52 +104,61 @@ impl Cases {
         Ok(true)
     }
 
-    /// Prints whether the pages come to what is wanted.
-    fn judge<W: Write>(&self, alloc: Global, wanted: Outcome, output: &mut W) -> io::Result<()> {
-        let is_right = outcome(alloc, self.reader, self.pages.as_slice())? == wanted;
-        self.tell(is_right, output)
+    /// Whether the pages are as a line wants them; `None` where it wants nothing.
+    fn verdict(&self, alloc: Global, word: &str, rest: &str) -> Result<Option<bool>, AllocError> {
+        match word {
+            "day" | "read" => self.come_to(alloc, Some(Outcome::Read)),
+            "refused" => self.come_to(alloc, refusal_named(rest)),
+            "kept" => self.keep(alloc, rest),
+            "resend" => Ok(Some(is_resend_whole(alloc)?)),
+            _ => Ok(None),
+        }
     }
 
-    /// Prints whether the last page that the history keeps is the one that a text says, and whether the last one is of
-    /// its events and batches pushed again.
-    fn compare<W: Write>(&self, alloc: Global, text: &str, output: &mut W) -> io::Result<()> {
-        let is_right = match bytes_said(alloc, text)? {
-            Some(page) => is_kept(alloc, self.pages.as_slice(), page.as_slice())?,
-            None => false,
-        };
-        self.tell(is_right, output)
+    /// Whether the pages come to what is wanted.
+    fn come_to(&self, alloc: Global, wanted: Option<Outcome>) -> Result<Option<bool>, AllocError> {
+        match wanted {
+            Some(wanted) => Ok(Some(outcome(alloc, self.reader, self.pages.as_slice())? == wanted)),
+            None => Ok(None),
+        }
     }
 
-    /// Prints a verdict.
-    fn tell<W: Write>(&self, is_right: bool, output: &mut W) -> io::Result<()> {
+    /// Whether the last page that the history keeps is the one that a text says, and the last one is of its events and
+    /// batches pushed again.
+    fn keep(&self, alloc: Global, text: &str) -> Result<Option<bool>, AllocError> {
+        match bytes_said(alloc, text)? {
+            Some(page) => Ok(Some(is_kept(alloc, self.pages.as_slice(), page.as_slice())?)),
+            None => Ok(Some(false)),
+        }
+    }
+
+    /// Shows a verdict.
+    fn tell(&self, is_right: bool, shown: &mut String) -> Result<(), AllocError> {
         let verdict = if is_right { "right" } else { "WRONG" };
-        writeln!(output, "{}: {verdict}", self.name)
+        writeln!(shown, "{}: {verdict}", self.name)
     }
 
-    /// Prints what the history answers that the pages are.
-    fn ask<W: Write>(
-        &self,
-        alloc: Global,
-        question: Question,
-        text: &str,
-        output: &mut W,
-    ) -> io::Result<()> {
-        write!(output, "{}, {text}:", self.name)?;
-        answer(alloc, question, self.pages.as_slice(), output)?;
-        writeln!(output)
+    /// Shows what the history answers that the pages are, or that a line isn't understood.
+    fn ask(&self, alloc: Global, text: &str, shown: &mut String) -> Result<(), AllocError> {
+        let (word, rest) = first_word(text);
+        match question_of(word, rest) {
+            Some(question) => {
+                write!(shown, "{}, {text}:", self.name)?;
+                answer(alloc, question, self.pages.as_slice(), shown)?;
+                shown.push('\n')
+            }
+            None => writeln!(shown, "not understood: {text}"),
+        }
     }
 
-    /// Prints what comes of all changes of a kind.
-    fn change<W: Write>(
-        &mut self,
-        alloc: Global,
-        change: Change,
-        word: &str,
-        output: &mut W,
-    ) -> io::Result<()> {
-        let tally = changed_all(alloc, self.reader, change, &mut self.pages)?;
-        write!(output, "{}, {word}: ", self.name)?;
-        tally.print(output)
+    /// Shows what comes of all changes of a word; false where it is none.
+    fn change(&self, alloc: Global, word: &str, shown: &mut String) -> Result<bool, AllocError> {
+        let Some(change) = change_named(word) else {
+            return Ok(false);
+        };
+        let tally = changed_all(alloc, self.reader, change, self.pages.as_slice())?;
+        writeln!(shown, "{}, {word}: {tally}", self.name)?;
+        Ok(true)
     }
 }
 
@@ -164,14 +173,8 @@ fn change_named(word: &str) -> Option<Change> {
     }
 }
 
-/// What pages have to come to: `day`, `read`, or `refused PAGE FAULT`.
-fn wanted(word: &str, rest: &str) -> Option<Outcome> {
-    match word {
-        "day" | "read" => Some(Outcome::Read),
-        "refused" => {
-            let (page, fault) = first_number(rest)?;
-            Some(Outcome::Refused(u32::try_from(page).ok()?, fault_named(fault)?))
-        }
-        _ => None,
-    }
+/// `PAGE FAULT`.
+fn refusal_named(text: &str) -> Option<Outcome> {
+    let (page, fault) = first_number(text)?;
+    Some(Outcome::Refused(u32::try_from(page).ok()?, fault_named(fault)?))
 }

@@ -1,12 +1,12 @@
 //! Pages that are changed in each way of a kind.
 
 use crate::reading::{Reader, outcome};
-use crate::records::{between, front_size, places_of, split};
+use crate::records::{between, front_size, places_of};
 use crate::tally::Tally;
 use std::alloc::{AllocError, Global};
 
 /// In which way pages are changed.
-#[derive(Clone, Copy)]
+#[derive(Clone, Copy, PartialEq, Eq)]
 pub enum Change {
     /// Each byte is every other value.
     Bytes,
@@ -23,142 +23,139 @@ pub fn changed_all(
     alloc: Global,
     reader: Reader,
     change: Change,
-    pages: &mut Vec<Vec<u8>>,
+    pages: &[Vec<u8>],
 ) -> Result<Tally, AllocError> {
     let mut tally = Tally::new();
-    for number in 0..pages.len() {
-        match change {
-            Change::Bytes => change_bytes(alloc, reader, pages, number, &mut tally)?,
-            Change::Fronts => cut_short(alloc, reader, pages.as_slice(), number, &mut tally)?,
-            Change::Exchanges => exchange_all(alloc, reader, pages.as_slice(), number, &mut tally)?,
-            Change::Cuts => cut_all(alloc, reader, pages.as_slice(), number, &mut tally)?,
+    for (number, page) in pages.iter().enumerate() {
+        let places = places_of(alloc, page.as_slice())?;
+        let (firsts, seconds) = counts_of(change, page.len(), places.len());
+        for first in 0..firsts {
+            for second in 0..seconds {
+                let parts = parts_of(
+                    alloc,
+                    change,
+                    page.as_slice(),
+                    places.as_slice(),
+                    (first, second),
+                )?;
+                count_changed(alloc, reader, change, pages, number, parts, &mut tally)?;
+            }
         }
     }
     Ok(tally)
 }
 
-/// Each byte of a page is every other value in turn.
-fn change_bytes(
+/// Counts what comes of pages with these in place of the one of a number, where there are some.
+fn count_changed(
     alloc: Global,
     reader: Reader,
-    pages: &mut Vec<Vec<u8>>,
-    number: usize,
-    tally: &mut Tally,
-) -> Result<(), AllocError> {
-    let size = match pages.get(number) {
-        Some(page) => page.len(),
-        None => 0,
-    };
-    for at in 0..size {
-        let was = byte_at(pages.as_slice(), number, at);
-        for value in 0..=255u8 {
-            if value != was {
-                put_byte(pages, number, at, value);
-                tally.count(outcome(alloc, reader, pages.as_slice())?, number);
-            }
-        }
-        put_byte(pages, number, at, was);
-    }
-    Ok(())
-}
-
-/// A byte of a page; 0 where there is none.
-fn byte_at(pages: &[Vec<u8>], number: usize, at: usize) -> u8 {
-    match pages.get(number) {
-        Some(page) => page.get(at).copied().unwrap_or(0),
-        None => 0,
-    }
-}
-
-/// A byte of a page is another.
-fn put_byte(pages: &mut Vec<Vec<u8>>, number: usize, at: usize, value: u8) {
-    if let Some(page) = pages.get_mut(number) {
-        if let Some(byte) = page.get_mut(at) {
-            *byte = value;
-        }
-    }
-}
-
-/// A page ends after each number of its bytes, and no page stands behind it.
-fn cut_short(
-    alloc: Global,
-    reader: Reader,
+    change: Change,
     pages: &[Vec<u8>],
     number: usize,
+    parts: Vec<Vec<u8>>,
     tally: &mut Tally,
 ) -> Result<(), AllocError> {
-    let page = page_at(pages, number);
-    for size in 0..page.len() {
-        let mut fewer = first_pages(alloc, pages, number)?;
-        let (front, _) = split(page, size);
-        fewer.push(Vec::from_slice(alloc, front)?)?;
-        tally.count(outcome(alloc, reader, fewer.as_slice())?, number);
+    if parts.is_empty() {
+        return Ok(());
     }
+    let whole = with_parts(alloc, change, pages, number, parts)?;
+    tally.count(outcome(alloc, reader, whole.as_slice())?, number);
     Ok(())
 }
 
-/// Each record of a page is exchanged with the next one.
-fn exchange_all(
+/// How many changes of a kind are tried of a page of so many bytes, with so many places where records begin or end:
+/// places of a byte and its values, ends, places of a record, pairs of places.
+fn counts_of(change: Change, size: usize, places: usize) -> (usize, usize) {
+    match change {
+        Change::Bytes => (size, 256),
+        Change::Fronts => (size, 1),
+        Change::Exchanges => (places, 1),
+        Change::Cuts => (places, places),
+    }
+}
+
+/// What a page becomes by a change: the pages in its place; none where nothing is changed.
+fn parts_of(
     alloc: Global,
-    reader: Reader,
-    pages: &[Vec<u8>],
-    number: usize,
-    tally: &mut Tally,
-) -> Result<(), AllocError> {
-    let page = page_at(pages, number);
-    let places = places_of(alloc, page)?;
-    for three in places.windows(3) {
-        if let [a, b, c] = three {
-            let text = exchanged(alloc, page, [*a, *b, *c])?;
-            let whole = with_parts(alloc, pages, number, vec![in alloc; text]?)?;
-            tally.count(outcome(alloc, reader, whole.as_slice())?, number);
-        }
-    }
-    Ok(())
-}
-
-/// A page in which the record from the first place to the second stands behind the one from there to the third.
-fn exchanged(alloc: Global, page: &[u8], places: [usize; 3]) -> Result<Vec<u8>, AllocError> {
-    let [a, b, c] = places;
-    let mut text = Vec::with_capacity(alloc, page.len())?;
-    add_exchanged(&mut text, page, a, b, c)?;
-    Ok(text)
-}
-
-/// Adds it.
-fn add_exchanged(
-    text: &mut Vec<u8>,
+    change: Change,
     page: &[u8],
-    a: usize,
-    b: usize,
-    c: usize,
-) -> Result<(), AllocError> {
-    text.extend_from_slice(between(page, 0, a))?;
-    text.extend_from_slice(between(page, b, c))?;
-    text.extend_from_slice(between(page, a, b))?;
-    text.extend_from_slice(between(page, c, page.len()))
+    places: &[usize],
+    at: (usize, usize),
+) -> Result<Vec<Vec<u8>>, AllocError> {
+    match change {
+        Change::Bytes => with_byte(alloc, page, at.0, u8::try_from(at.1).unwrap_or(0)),
+        Change::Fronts => one(alloc, between(page, 0, at.0)),
+        Change::Exchanges => exchanged(alloc, page, places.get(at.0..).unwrap_or(&[])),
+        Change::Cuts => cut(alloc, page, places, at),
+    }
 }
 
-/// A page is cut into two and into three, wherever a record ends.
-fn cut_all(
-    alloc: Global,
-    reader: Reader,
-    pages: &[Vec<u8>],
-    number: usize,
-    tally: &mut Tally,
-) -> Result<(), AllocError> {
-    let page = page_at(pages, number);
-    let places = places_of(alloc, page)?;
-    for (before_a, a) in places.iter().enumerate() {
-        for (before_b, b) in places.iter().enumerate() {
-            if a <= b && *a > front_size(page) && *b < page.len() {
-                let parts = cut_at(alloc, page, (before_a, *a), (before_b, *b))?;
-                let whole = with_parts(alloc, pages, number, parts)?;
-                tally.count(outcome(alloc, reader, whole.as_slice())?, number);
-            }
-        }
+/// One page.
+fn one(alloc: Global, page: &[u8]) -> Result<Vec<Vec<u8>>, AllocError> {
+    let mut parts = Vec::new(alloc);
+    parts.push(Vec::from_slice(alloc, page)?)?;
+    Ok(parts)
+}
+
+/// A page in which a byte is another.
+fn with_byte(alloc: Global, page: &[u8], at: usize, value: u8) -> Result<Vec<Vec<u8>>, AllocError> {
+    if page.get(at) == Some(&value) {
+        return Ok(Vec::new(alloc));
     }
-    Ok(())
+    let mut parts = one(alloc, page)?;
+    if let Some(other) = parts.first_mut() {
+        put_byte(other, at, value);
+    }
+    Ok(parts)
+}
+
+/// A byte is another.
+fn put_byte(page: &mut Vec<u8>, at: usize, value: u8) {
+    if let Some(byte) = page.get_mut(at) {
+        *byte = value;
+    }
+}
+
+/// A page in which the record between the first two places stands behind the one that follows it.
+fn exchanged(alloc: Global, page: &[u8], places: &[usize]) -> Result<Vec<Vec<u8>>, AllocError> {
+    let mut parts = Vec::new(alloc);
+    if let [a, b, c, ..] = places {
+        let order = [
+            between(page, 0, *a),
+            between(page, *b, *c),
+            between(page, *a, *b),
+            between(page, *c, page.len()),
+        ];
+        parts.push(joined(alloc, &order)?)?;
+    }
+    Ok(parts)
+}
+
+/// Texts, one behind another.
+fn joined(alloc: Global, texts: &[&[u8]]) -> Result<Vec<u8>, AllocError> {
+    let mut whole = Vec::new(alloc);
+    for text in texts {
+        whole.extend_from_slice(text)?;
+    }
+    Ok(whole)
+}
+
+/// A page as two, where both places are the same, or as three; none where they are in another order, or no record
+/// stands in front of the first or behind the second.
+fn cut(
+    alloc: Global,
+    page: &[u8],
+    places: &[usize],
+    at: (usize, usize),
+) -> Result<Vec<Vec<u8>>, AllocError> {
+    let (Some(a), Some(b)) = (places.get(at.0), places.get(at.1)) else {
+        return Ok(Vec::new(alloc));
+    };
+    if a <= b && *a > front_size(page) && *b < page.len() {
+        cut_at(alloc, page, (at.0, *a), (at.1, *b))
+    } else {
+        Ok(Vec::new(alloc))
+    }
 }
 
 /// How many records of a page stand before a place, and the place.
@@ -183,49 +180,43 @@ fn headed(
     before: usize,
     records: &[u8],
 ) -> Result<Vec<u8>, AllocError> {
-    let mut page = Vec::from_slice(alloc, between(whole, 0, 4))?;
-    if let [b'G', b'J', b'0', b'2', a, b, c, d, e, f, g, h, ..] = whole {
-        let first = u64::from_be_bytes([*a, *b, *c, *d, *e, *f, *g, *h]);
-        page.extend_from_slice(&first.wrapping_add(before as u64).to_be_bytes())?;
-    }
-    page.extend_from_slice(records)?;
-    Ok(page)
-}
-
-/// The page of a number; nothing where there is none.
-fn page_at(pages: &[Vec<u8>], number: usize) -> &[u8] {
-    match pages.get(number) {
-        Some(page) => page.as_slice(),
-        None => &[],
-    }
-}
-
-/// So many pages, copied.
-fn first_pages(alloc: Global, pages: &[Vec<u8>], count: usize) -> Result<Vec<Vec<u8>>, AllocError> {
-    let mut copies = Vec::new(alloc);
-    for (number, page) in pages.iter().enumerate() {
-        if number < count {
-            copies.push(Vec::from_slice(alloc, page.as_slice())?)?;
+    match whole {
+        [b'G', b'J', b'0', b'2', a, b, c, d, e, f, g, h, ..] => {
+            let first = u64::from_be_bytes([*a, *b, *c, *d, *e, *f, *g, *h]);
+            let due = first.wrapping_add(before as u64).to_be_bytes();
+            joined(alloc, &[b"GJ02", &due, records])
         }
+        _ => joined(alloc, &[between(whole, 0, 4), records]),
     }
-    Ok(copies)
 }
 
-/// Pages with these in place of the one of a number.
+/// Pages with these in place of the one of a number; without those behind it where it is to be the last.
 fn with_parts(
     alloc: Global,
+    change: Change,
     pages: &[Vec<u8>],
     number: usize,
     parts: Vec<Vec<u8>>,
 ) -> Result<Vec<Vec<u8>>, AllocError> {
-    let mut whole = first_pages(alloc, pages, number)?;
+    let mut whole = Vec::new(alloc);
+    add_pages(alloc, &mut whole, pages.get(..number).unwrap_or(&[]))?;
     for part in parts {
         whole.push(part)?;
     }
-    for (other, page) in pages.iter().enumerate() {
-        if other > number {
-            whole.push(Vec::from_slice(alloc, page.as_slice())?)?;
-        }
+    if change != Change::Fronts {
+        add_pages(
+            alloc,
+            &mut whole,
+            pages.get(number.saturating_add(1)..).unwrap_or(&[]),
+        )?;
     }
     Ok(whole)
+}
+
+/// Adds copies of pages.
+fn add_pages(alloc: Global, whole: &mut Vec<Vec<u8>>, pages: &[Vec<u8>]) -> Result<(), AllocError> {
+    for page in pages {
+        whole.push(Vec::from_slice(alloc, page.as_slice())?)?;
+    }
+    Ok(())
 }

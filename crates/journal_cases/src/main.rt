@@ -12,7 +12,8 @@ mod tally;
 mod words;
 
 use cases::Cases;
-use std::io::{self, BufRead, BufReader};
+use std::alloc::Global;
+use std::io::{self, BufRead, BufReader, Write};
 
 fn main(rt: HostRuntime) -> io::Result<()> {
     let mut cases = Cases::new(rt.alloc());
@@ -24,7 +25,17 @@ fn run(rt: &HostRuntime, cases: &mut Cases) -> io::Result<()> {
     let alloc = rt.alloc();
     for line in BufReader::new(alloc, rt.reader())?.lines(alloc) {
         let line = line?;
-        cases.step(alloc, line.as_str(), &mut io::writer(rt))?;
+        take(alloc, cases, line.as_str(), &mut io::writer(rt))?;
     }
     Ok(())
+}
+
+/// Does what a line says, and prints what comes of it.
+fn take<W: Write>(alloc: Global, cases: &mut Cases, line: &str, output: &mut W) -> io::Result<()> {
+    if line.is_empty() || line.starts_with('#') {
+        return Ok(());
+    }
+    let mut shown = String::new(alloc);
+    cases.step(alloc, line, &mut shown)?;
+    output.write_all(shown.as_bytes())
 }

@@ -110,39 +110,12 @@ pub fn places_of(alloc: Global, page: &[u8]) -> Result<Vec<usize>, AllocError> {
     Ok(places)
 }
 
-/// How many bytes the record at a place has.
+/// How many bytes the record at a place has: its head, whose last four bytes are its payload's length, and that.
 fn size_at(page: &[u8], at: usize) -> Option<usize> {
     let (_, record) = split(page, at);
-    let [
-        _,
-        _,
-        _,
-        _,
-        _,
-        _,
-        _,
-        _,
-        _,
-        _,
-        _,
-        _,
-        _,
-        _,
-        _,
-        _,
-        _,
-        _,
-        _,
-        a,
-        b,
-        c,
-        d,
-        ..
-    ] = record
-    else {
-        return None;
-    };
-    Some(HEAD + u32::from_be_bytes([*a, *b, *c, *d]) as usize)
+    let (_, behind) = record.split_first_chunk::<19>()?;
+    let size = behind.first_chunk::<4>()?;
+    Some(HEAD + u32::from_be_bytes(*size) as usize)
 }
 
 /// The bytes up to a place, and those behind it.

@@ -1,7 +1,7 @@
 //! What came of changed pages.
 
 use gate_journal::PageFault;
-use std::io::{self, Write};
+use std::fmt;
 
 /// What reading pages comes to.
 #[derive(Clone, Copy, PartialEq, Eq)]
@@ -15,63 +15,57 @@ pub enum Outcome {
     Other,
 }
 
-/// How many pages were refused, by why, how many were read, and how many otherwise than they are to be.
+/// How many pages were refused, by why, how many were read, and how many otherwise than they are to be: head, kind, cut
+/// short, payload, order, number, read, wrong.
 #[derive(Clone, Copy)]
 pub struct Tally {
-    head: u64,
-    kind: u64,
-    cut_short: u64,
-    payload: u64,
-    order: u64,
-    number: u64,
-    read: u64,
-    wrong: u64,
+    counts: [u64; 8],
 }
 
 impl Tally {
     /// Nothing was read.
     pub fn new() -> Tally {
-        Tally {
-            head: 0,
-            kind: 0,
-            cut_short: 0,
-            payload: 0,
-            order: 0,
-            number: 0,
-            read: 0,
-            wrong: 0,
-        }
+        Tally { counts: [0; 8] }
     }
 
     /// Counts what came of pages that are the same as before up to a page of this number, which is refused first.
     pub fn count(&mut self, outcome: Outcome, from: usize) {
-        match outcome {
-            Outcome::Refused(page, fault) if page as usize >= from => self.refuse(fault),
-            Outcome::Read => self.read = self.read.saturating_add(1),
-            _ => self.wrong = self.wrong.saturating_add(1),
+        if let Some(count) = self.counts.get_mut(place_of(outcome, from)) {
+            *count = count.saturating_add(1);
         }
     }
+}
 
-    /// Counts a refusal. Memory isn't to run out.
-    fn refuse(&mut self, fault: PageFault) {
-        match fault {
-            PageFault::Head => self.head = self.head.saturating_add(1),
-            PageFault::Kind => self.kind = self.kind.saturating_add(1),
-            PageFault::CutShort => self.cut_short = self.cut_short.saturating_add(1),
-            PageFault::Payload => self.payload = self.payload.saturating_add(1),
-            PageFault::Order => self.order = self.order.saturating_add(1),
-            PageFault::Number => self.number = self.number.saturating_add(1),
-            PageFault::NoMemory => self.wrong = self.wrong.saturating_add(1),
-        }
+/// Where an outcome is counted.
+fn place_of(outcome: Outcome, from: usize) -> usize {
+    match outcome {
+        Outcome::Refused(page, fault) if page as usize >= from => place_of_fault(fault),
+        Outcome::Read => 6,
+        _ => 7,
     }
+}
 
-    /// Prints the counts.
-    pub fn print<W: Write>(self, output: &mut W) -> io::Result<()> {
+/// Where a fault is counted. Memory isn't to run out.
+fn place_of_fault(fault: PageFault) -> usize {
+    match fault {
+        PageFault::Head => 0,
+        PageFault::Kind => 1,
+        PageFault::CutShort => 2,
+        PageFault::Payload => 3,
+        PageFault::Order => 4,
+        PageFault::Number => 5,
+        PageFault::NoMemory => 7,
+    }
+}
+
+impl fmt::Display for Tally {
+    fn fmt<W: fmt::Write>(&self, f: &mut fmt::Formatter<W>) -> fmt::Result {
+        let [head, kind, cut_short, payload, order, number, read, wrong] = self.counts;
         write!(
-            output,
-            "refused: head {}, kind {}, cut short {}, payload {}, order {}, number {}",
-            self.head, self.kind, self.cut_short, self.payload, self.order, self.number
+            f,
+            "refused: head {head}, kind {kind}, cut short {cut_short}, "
         )?;
-        writeln!(output, "; read: {}; wrong: {}", self.read, self.wrong)
+        write!(f, "payload {payload}, order {order}, number {number}")?;
+        write!(f, "; read: {read}; wrong: {wrong}")
     }
 }

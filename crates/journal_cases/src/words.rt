@@ -1,16 +1,9 @@
 //! The words of a line, and the bytes that they say.
 
+use case_lines::first_word;
 use decimal_digits::number_of;
 use gate_journal::PageFault;
 use std::alloc::{AllocError, Global};
-
-/// The first word of a text, and what stands behind the space after it: nothing where there is no space.
-pub fn first_word(text: &str) -> (&str, &str) {
-    match text.split_once(' ') {
-        Some(parts) => parts,
-        None => (text, ""),
-    }
-}
 
 /// The number of a text's first word, and what stands behind it.
 pub fn first_number(text: &str) -> Option<(u64, &str)> {
@@ -69,21 +62,22 @@ fn text_said(alloc: Global, text: &str) -> Result<Vec<u8>, AllocError> {
 /// The bytes of hexadecimal digits, two a byte.
 fn hex_said(alloc: Global, digits: &str) -> Result<Option<Vec<u8>>, AllocError> {
     let mut bytes = Vec::new(alloc);
-    let mut rest = digits.as_bytes();
-    while let [high, low, after @ ..] = rest {
-        match byte_of(*high, *low) {
+    for pair in digits.as_bytes().chunks(2) {
+        match byte_of(pair) {
             Some(byte) => bytes.push(byte)?,
             None => return Ok(None),
         }
-        rest = after;
     }
-    Ok(if rest.is_empty() { Some(bytes) } else { None })
+    Ok(Some(bytes))
 }
 
 /// The byte of two hexadecimal digits.
-fn byte_of(high: u8, low: u8) -> Option<u8> {
-    let high = char::from(high).to_digit(16)?;
-    let low = char::from(low).to_digit(16)?;
+fn byte_of(digits: &[u8]) -> Option<u8> {
+    let [high, low] = digits else {
+        return None;
+    };
+    let high = char::from(*high).to_digit(16)?;
+    let low = char::from(*low).to_digit(16)?;
     Some((high * 16 + low) as u8)
 }
 

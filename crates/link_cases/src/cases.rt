@@ -9,7 +9,6 @@ use crate::writing::write_lists;
 use script_lines::{Line, LineFault, line_of};
 use seeded_choices::Chance;
 use std::alloc::{AllocError, Global};
-use std::io::{self, Write};
 
 /// What a seed makes.
 #[derive(Clone, Copy)]
@@ -21,11 +20,21 @@ enum Making {
 }
 
 /// What was recorded so far, bodies of frames, and type and payload of packets; and the link that is stepped.
-#[derive(Drop)]
 pub struct Cases {
     bodies: Vec<Vec<u8>>,
     packets: Vec<Vec<u8>>,
     stepped: Stepped,
+}
+
+/// Written by hand, so that one call drops all.
+impl Drop for Cases {
+    fn drop(self) {
+        let Cases {
+            bodies: _,
+            packets: _,
+            stepped: _,
+        } = self;
+    }
 }
 
 impl Cases {
@@ -38,33 +47,40 @@ impl Cases {
         }
     }
 
-    /// Does what a line says, and prints what comes of it.
-    pub fn step<W: Write>(&mut self, alloc: Global, text: &[u8], output: &mut W) -> io::Result<()> {
-        if text.is_empty() || text.starts_with(b"#") {
-            return Ok(());
-        }
-        if self.stepped.does(alloc, text, output)? || self.does(alloc, text, output)? {
+    /// Does what a line says, and shows what comes of it.
+    pub fn step(
+        &mut self,
+        alloc: Global,
+        text: &[u8],
+        shown: &mut Vec<u8>,
+    ) -> Result<(), AllocError> {
+        if self.stepped.does(alloc, text, shown)? || self.does(alloc, text, shown)? {
             Ok(())
         } else {
-            note(text, output)
+            note(text, shown)
         }
     }
 
     /// Does what a line says; false where it isn't understood.
-    fn does<W: Write>(&mut self, alloc: Global, text: &[u8], output: &mut W) -> io::Result<bool> {
+    fn does(
+        &mut self,
+        alloc: Global,
+        text: &[u8],
+        shown: &mut Vec<u8>,
+    ) -> Result<bool, AllocError> {
         if let Some(steps) = steps_of(text) {
-            print_line(text, output)?;
-            read_endless(alloc, steps).print(output)?;
+            show_line(text, shown)?;
+            read_endless(alloc, steps).show(shown)?;
             return Ok(true);
         }
         match making_of(text) {
             Some((making, seed, count)) => {
                 let tally = self.make(alloc, making, seed, count)?;
-                print_line(text, output)?;
-                tally.print(output)?;
+                show_line(text, shown)?;
+                tally.show(shown)?;
                 Ok(true)
             }
-            None => Ok(self.record(alloc, text)?),
+            None => self.record(alloc, text),
         }
     }
 
@@ -138,17 +154,17 @@ impl Cases {
     }
 }
 
-/// Prints a line, in front of what comes of it.
-fn print_line<W: Write>(text: &[u8], output: &mut W) -> io::Result<()> {
-    output.write_all(text)?;
-    output.write_all(b": ")
+/// Shows a line, in front of what comes of it.
+fn show_line(text: &[u8], shown: &mut Vec<u8>) -> Result<(), AllocError> {
+    shown.extend_from_slice(text)?;
+    shown.extend_from_slice(b": ")
 }
 
 /// Notes a line that isn't understood.
-fn note<W: Write>(text: &[u8], output: &mut W) -> io::Result<()> {
-    output.write_all(b"not understood: ")?;
-    output.write_all(text)?;
-    output.write_all(b"\n")
+fn note(text: &[u8], shown: &mut Vec<u8>) -> Result<(), AllocError> {
+    shown.extend_from_slice(b"not understood: ")?;
+    shown.extend_from_slice(text)?;
+    shown.extend_from_slice(b"\n")
 }
 
 /// `frames SEED COUNT`, `packets SEED COUNT`, `lists SEED COUNT`.

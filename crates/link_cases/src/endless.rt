@@ -4,8 +4,8 @@ use crate::gate::Kept;
 use crate::tally::print_count;
 use link_io::{ClientNumber, ClientReader, LinkFault, Progress};
 use seeded_choices::Chance;
-use std::alloc::Global;
-use std::io::{self, Read, Write};
+use std::alloc::{AllocError, Global};
+use std::io::{self, Read};
 
 /// A stream that gives `x` for ever, a byte a read.
 #[derive(Drop)]
@@ -39,12 +39,12 @@ pub struct LastStep {
 }
 
 impl LastStep {
-    /// Prints it.
-    pub fn print<W: Write>(self, output: &mut W) -> io::Result<()> {
-        print_count(output, self.bytes, b" bytes by ")?;
-        print_count(output, self.reads, b" reads, step ")?;
-        print_count(output, self.step, b" is fault ")?;
-        print_count(output, u64::from(self.fault), b"\n")
+    /// Shows it.
+    pub fn show(self, shown: &mut Vec<u8>) -> Result<(), AllocError> {
+        print_count(shown, self.bytes, b" bytes by ")?;
+        print_count(shown, self.reads, b" reads, step ")?;
+        print_count(shown, self.step, b" is fault ")?;
+        print_count(shown, u64::from(self.fault), b"\n")
     }
 }
 

@@ -11,7 +11,6 @@ use link_io::{
 };
 use seeded_choices::Chance;
 use std::alloc::{AllocError, Global};
-use std::io::{self, Write};
 use std::sync::atomic::Ordering;
 
 /// The client, the port, and the link of both.
@@ -25,13 +24,25 @@ const LINK: u64 = 7;
 const MOST_READS: u32 = 1_000;
 
 /// A client's reader, a port's, and a writer, over one stream and one gate.
-#[derive(Drop)]
 pub struct Stepped {
     client: ClientReader,
     port: PortReader,
     writer: BatchWriter,
     stream: Limited,
     gate: Kept,
+}
+
+/// Written by hand, so that one call drops all.
+impl Drop for Stepped {
+    fn drop(self) {
+        let Stepped {
+            client: _,
+            port: _,
+            writer: _,
+            stream: _,
+            gate: _,
+        } = self;
+    }
 }
 
 impl Stepped {
@@ -47,37 +58,37 @@ impl Stepped {
         }
     }
 
-    /// Does what a line says, and prints what comes of a step; false where the line isn't one of these.
-    pub fn does<W: Write>(
+    /// Does what a line says, and shows what comes of a step; false where the line isn't one of these.
+    pub fn does(
         &mut self,
         alloc: Global,
         line: &[u8],
-        output: &mut W,
-    ) -> io::Result<bool> {
+        shown: &mut Vec<u8>,
+    ) -> Result<bool, AllocError> {
         match line {
-            b"write" => self.write(alloc, output)?,
-            b"write promptly" => self.write_promptly(alloc, output)?,
-            b"faults" => print_faults(output)?,
+            b"write" => self.write(alloc, shown)?,
+            b"write promptly" => self.write_promptly(alloc, shown)?,
+            b"faults" => show_faults(shown)?,
             b"full" => self.gate.is_full = true,
             b"room" => self.gate.is_full = false,
             b"list" => self.gate.lists.insert(0, ShortList::new())?,
-            _ => return self.does_words(alloc, line, output),
+            _ => return self.does_words(alloc, line, shown),
         }
         Ok(true)
     }
 
     /// Does what a line of a word and a number says.
-    fn does_words<W: Write>(
+    fn does_words(
         &mut self,
         alloc: Global,
         line: &[u8],
-        output: &mut W,
-    ) -> io::Result<bool> {
+        shown: &mut Vec<u8>,
+    ) -> Result<bool, AllocError> {
         let Some((word, rest)) = words_of(line) else {
             return Ok(false);
         };
         if word == b"case".as_slice() {
-            print_bytes(line, output)?;
+            show_bytes(line, shown)?;
             return Ok(true);
         }
         let Some(number) = number_of(rest) else {
@@ -93,8 +104,8 @@ impl Stepped {
                     &mut self.gate,
                     number,
                 );
-                print_count(output, self.client.skipped(), b" skipped, ")?;
-                self.print_read(ended, output)?;
+                print_count(shown, self.client.skipped(), b" skipped, ")?;
+                self.show_read(ended, shown)?;
             }
             b"port" => {
                 let ended = read(
@@ -104,7 +115,7 @@ impl Stepped {
                     &mut self.gate,
                     number,
                 );
-                self.print_read(ended, output)?;
+                self.show_read(ended, shown)?;
             }
             b"close" => self.tell(alloc, LinkOut::Close { link: number })?,
             _ => return Ok(false),
@@ -157,55 +168,55 @@ impl Stepped {
         }
     }
 
-    /// Prints what came of a reader's steps, and the events that were put.
-    fn print_read<W: Write>(
+    /// Shows what came of a reader's steps, and the events that were put.
+    fn show_read(
         &mut self,
         ended: Result<Progress, LinkFault>,
-        output: &mut W,
-    ) -> io::Result<()> {
-        print_count(output, self.stream.bytes, b" bytes by ")?;
-        print_count(output, self.stream.calls, b" calls: ")?;
-        print_ended(ended, output)?;
+        shown: &mut Vec<u8>,
+    ) -> Result<(), AllocError> {
+        print_count(shown, self.stream.bytes, b" bytes by ")?;
+        print_count(shown, self.stream.calls, b" calls: ")?;
+        show_ended(ended, shown)?;
         for event in &self.gate.events {
-            print_event(event, output)?;
+            show_event(event, shown)?;
         }
         self.gate.events.clear();
         Ok(())
     }
 
     /// A step of the writer.
-    fn write<W: Write>(&mut self, alloc: Global, output: &mut W) -> io::Result<()> {
+    fn write(&mut self, alloc: Global, shown: &mut Vec<u8>) -> Result<(), AllocError> {
         match self.writer.step(alloc, &mut self.stream, &mut self.gate) {
-            Ok(wrote) => print_wrote(wrote, output)?,
-            Err(fault) => print_fault(fault, output)?,
+            Ok(wrote) => show_wrote(wrote, shown)?,
+            Err(fault) => show_fault(fault, shown)?,
         }
-        self.print_written(output)
+        self.show_written(shown)
     }
 
     /// A prompt step of the writer.
-    fn write_promptly<W: Write>(&mut self, alloc: Global, output: &mut W) -> io::Result<()> {
+    fn write_promptly(&mut self, alloc: Global, shown: &mut Vec<u8>) -> Result<(), AllocError> {
         let is_all = self
             .writer
             .step_once(alloc, &mut self.stream, &mut self.gate);
-        output.write_all(if is_all {
+        shown.extend_from_slice(if is_all {
             b"nothing is left\n".as_slice()
         } else {
             b"something is left\n".as_slice()
         })?;
-        self.print_written(output)
+        self.show_written(shown)
     }
 
-    /// Prints what the stream has, its calls, the lists that lie there, and how many bytes of frames the gate was told.
-    fn print_written<W: Write>(&mut self, output: &mut W) -> io::Result<()> {
-        print_count(output, self.stream.calls, b" calls, ")?;
-        print_count(output, self.gate.lists.len() as u64, b" lists left, ")?;
+    /// Shows what the stream has, its calls, the lists that lie there, and how many bytes of frames the gate was told.
+    fn show_written(&mut self, shown: &mut Vec<u8>) -> Result<(), AllocError> {
+        print_count(shown, self.stream.calls, b" calls, ")?;
+        print_count(shown, self.gate.lists.len() as u64, b" lists left, ")?;
         print_count(
-            output,
+            shown,
             self.gate.sent.load(Ordering::SeqCst),
             b" bytes told, ",
         )?;
-        print_count(output, self.stream.taken.len() as u64, b" written:\n")?;
-        print_bytes(self.stream.taken.as_slice(), output)
+        print_count(shown, self.stream.taken.len() as u64, b" written:\n")?;
+        show_bytes(self.stream.taken.as_slice(), shown)
     }
 }
 
@@ -226,44 +237,49 @@ fn read<D: Decoder>(
     Ok(Progress::Held)
 }
 
-/// Prints what a reader's step came to.
-fn print_ended<W: Write>(ended: Result<Progress, LinkFault>, output: &mut W) -> io::Result<()> {
+/// Shows what a reader's step came to.
+fn show_ended(ended: Result<Progress, LinkFault>, shown: &mut Vec<u8>) -> Result<(), AllocError> {
     match ended {
-        Ok(Progress::Ended) => output.write_all(b"ended\n"),
-        Ok(_) => output.write_all(b"held\n"),
-        Err(fault) => print_fault(fault, output),
+        Ok(Progress::Ended) => shown.extend_from_slice(b"ended\n"),
+        Ok(_) => shown.extend_from_slice(b"held\n"),
+        Err(fault) => show_fault(fault, shown),
     }
 }
 
-/// Prints what a writer's step did.
-fn print_wrote<W: Write>(wrote: Wrote, output: &mut W) -> io::Result<()> {
-    print_count(output, wrote.bytes, b" bytes")?;
+/// Shows what a writer's step did.
+fn show_wrote(wrote: Wrote, shown: &mut Vec<u8>) -> Result<(), AllocError> {
+    print_count(shown, wrote.bytes, b" bytes")?;
     if wrote.taken {
-        output.write_all(b", taken")?;
+        shown.extend_from_slice(b", taken")?;
     }
     if wrote.closed {
-        output.write_all(b", closed")?;
+        shown.extend_from_slice(b", closed")?;
     }
-    output.write_all(b"\n")
+    shown.extend_from_slice(b"\n")
 }
 
-/// Prints a fault's number.
-fn print_fault<W: Write>(fault: LinkFault, output: &mut W) -> io::Result<()> {
-    output.write_all(b"fault ")?;
-    print_count(output, u64::from(fault.number()), b"\n")
+/// Shows a fault's number.
+fn show_fault(fault: LinkFault, shown: &mut Vec<u8>) -> Result<(), AllocError> {
+    shown.extend_from_slice(b"fault ")?;
+    print_count(shown, u64::from(fault.number()), b"\n")
 }
 
-/// Prints the number of each fault.
-fn print_faults<W: Write>(output: &mut W) -> io::Result<()> {
-    print_fault(LinkFault::ReadFailed, output)?;
-    print_fault(LinkFault::WriteFailed, output)?;
-    print_fault(LinkFault::Malformed, output)?;
-    print_fault(LinkFault::StepLimit, output)?;
-    print_fault(LinkFault::NoMemory, output)
+/// Shows the number of each fault.
+fn show_faults(shown: &mut Vec<u8>) -> Result<(), AllocError> {
+    for fault in [
+        LinkFault::ReadFailed,
+        LinkFault::WriteFailed,
+        LinkFault::Malformed,
+        LinkFault::StepLimit,
+        LinkFault::NoMemory,
+    ] {
+        show_fault(fault, shown)?;
+    }
+    Ok(())
 }
 
-/// Prints an event: its number, its link, its moment, and its frame or its packet.
-fn print_event<W: Write>(event: &Event, output: &mut W) -> io::Result<()> {
+/// Shows an event: its number, its link, its moment, and its frame or its packet.
+fn show_event(event: &Event, shown: &mut Vec<u8>) -> Result<(), AllocError> {
     match event {
         Event::ClientMessage {
             client,
@@ -271,8 +287,8 @@ fn print_event<W: Write>(event: &Event, output: &mut W) -> io::Result<()> {
             at,
             frame,
         } => {
-            print_head(b"client ", client.number(), *link, *at, output)?;
-            print_bytes(frame.fields().text(), output)
+            show_head(b"client ", client.number(), *link, *at, shown)?;
+            show_bytes(frame.fields().text(), shown)
         }
         Event::PortPacket {
             port,
@@ -280,34 +296,34 @@ fn print_event<W: Write>(event: &Event, output: &mut W) -> io::Result<()> {
             at,
             packet,
         } => {
-            print_head(b"port ", port.number(), *link, *at, output)?;
-            output.write_all(&[packet.kind])?;
-            print_bytes(packet.payload.as_slice(), output)
+            show_head(b"port ", port.number(), *link, *at, shown)?;
+            shown.extend_from_slice(&[packet.kind])?;
+            show_bytes(packet.payload.as_slice(), shown)
         }
-        _ => output.write_all(b"other\n"),
+        _ => shown.extend_from_slice(b"other\n"),
     }
 }
 
-/// Prints whose event it is, its link and its moment.
-fn print_head<W: Write>(
+/// Shows whose event it is, its link and its moment.
+fn show_head(
     of: &[u8],
     number: u16,
     link: u64,
     at: u64,
-    output: &mut W,
-) -> io::Result<()> {
-    output.write_all(of)?;
-    print_count(output, u64::from(number), b" link ")?;
-    print_count(output, link, b" at ")?;
-    print_count(output, at, b": ")
+    shown: &mut Vec<u8>,
+) -> Result<(), AllocError> {
+    shown.extend_from_slice(of)?;
+    print_count(shown, u64::from(number), b" link ")?;
+    print_count(shown, link, b" at ")?;
+    print_count(shown, at, b": ")
 }
 
-/// Prints bytes and the end of a line, with `|` for SOH.
-fn print_bytes<W: Write>(bytes: &[u8], output: &mut W) -> io::Result<()> {
+/// Shows bytes and the end of a line, with `|` for SOH.
+fn show_bytes(bytes: &[u8], shown: &mut Vec<u8>) -> Result<(), AllocError> {
     for byte in bytes {
-        output.write_all(&[if *byte == 1 { b'|' } else { *byte }])?;
+        shown.extend_from_slice(&[if *byte == 1 { b'|' } else { *byte }])?;
     }
-    output.write_all(b"\n")
+    shown.extend_from_slice(b"\n")
 }
 
 /// The bytes of a text, in which `|` stands for SOH and `~` for a byte 0.

@@ -1,6 +1,6 @@
 //! What came of the streams of a seed.
 
-use std::io::{self, Write};
+use std::alloc::AllocError;
 
 /// How many streams there were, what was in them, and how many were read or written otherwise than by the plain
 /// program.
@@ -31,18 +31,18 @@ impl Tally {
         self.differing = self.differing.saturating_add(u64::from(!is_same));
     }
 
-    /// Prints the counts.
-    pub fn print<W: Write>(self, output: &mut W) -> io::Result<()> {
-        print_count(output, self.streams, b" streams, ")?;
-        print_count(output, self.units, b" units, ")?;
-        print_count(output, self.faults, b" faults, ")?;
-        print_count(output, self.differing, b" read or written otherwise\n")
+    /// Shows the counts.
+    pub fn show(self, shown: &mut Vec<u8>) -> Result<(), AllocError> {
+        print_count(shown, self.streams, b" streams, ")?;
+        print_count(shown, self.units, b" units, ")?;
+        print_count(shown, self.faults, b" faults, ")?;
+        print_count(shown, self.differing, b" read or written otherwise\n")
     }
 }
 
 /// A number, and what is counted.
-pub fn print_count<W: Write>(output: &mut W, count: u64, of: &[u8]) -> io::Result<()> {
+pub fn print_count(shown: &mut Vec<u8>, count: u64, of: &[u8]) -> Result<(), AllocError> {
     let mut digits = itoa::Buffer::new();
-    output.write_all(digits.format(count).as_bytes())?;
-    output.write_all(of)
+    shown.extend_from_slice(digits.format(count).as_bytes())?;
+    shown.extend_from_slice(of)
 }

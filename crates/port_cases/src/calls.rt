@@ -1,27 +1,21 @@
-//! What a case speaks with: one session of a port, one reader of packets, one market.
+//! What a case speaks with: one session of a port, one market.
 
+use crate::market;
 use crate::session::Port;
-use crate::{market, packets};
 use case_lines::{Conversation, bytes_of, first_word};
 use market_sim::Sim;
-use soup_packets::Packets;
 use std::alloc::{AllocError, Global};
 
-/// A session, a reader and a market.
+/// A session and a market.
 pub struct Calls {
     port: Port,
-    reader: Packets,
     market: Sim,
 }
 
 /// Written by hand, so that one call drops all.
 impl Drop for Calls {
     fn drop(self) {
-        let Calls {
-            port: _,
-            reader: _,
-            market: _,
-        } = self;
+        let Calls { port: _, market: _ } = self;
     }
 }
 
@@ -30,7 +24,6 @@ impl Calls {
     pub fn new(alloc: Global) -> Calls {
         Calls {
             port: Port::new(),
-            reader: Packets::new(alloc),
             market: Sim::new(alloc),
         }
     }
@@ -39,28 +32,46 @@ impl Calls {
 impl Conversation for Calls {
     fn begin(&mut self, alloc: Global) -> Result<(), AllocError> {
         self.port = Port::new();
-        self.reader = Packets::new(alloc);
         self.market = Sim::new(alloc);
         Ok(())
     }
 
     fn step(&mut self, alloc: Global, line: &str, shown: &mut Vec<u8>) -> Result<bool, AllocError> {
         let (whose, asked) = first_word(line);
-        let is_market = whose == "market";
-        let (call, text) = if is_market {
-            first_word(asked)
+        if whose == "market" {
+            self.step_market(alloc, asked, shown)
         } else {
-            (whose, asked)
-        };
-        let Some(bytes) = bytes_of(alloc, text)? else {
-            return Ok(false);
-        };
-        if is_market {
-            market::step(alloc, &mut self.market, call, bytes.as_slice(), shown)
-        } else if packets::step(alloc, &mut self.reader, call, bytes.as_slice(), shown)? {
-            Ok(true)
-        } else {
-            self.port.step(alloc, call, bytes.as_slice(), shown)
+            self.step_port(alloc, line, shown)
+        }
+    }
+}
+
+impl Calls {
+    /// Makes a call of the market.
+    fn step_market(
+        &mut self,
+        alloc: Global,
+        asked: &str,
+        shown: &mut Vec<u8>,
+    ) -> Result<bool, AllocError> {
+        let (call, text) = first_word(asked);
+        match bytes_of(alloc, text)? {
+            Some(bytes) => market::step(alloc, &mut self.market, call, bytes.as_slice(), shown),
+            None => Ok(false),
+        }
+    }
+
+    /// Makes a call of the session.
+    fn step_port(
+        &mut self,
+        alloc: Global,
+        line: &str,
+        shown: &mut Vec<u8>,
+    ) -> Result<bool, AllocError> {
+        let (call, text) = first_word(line);
+        match bytes_of(alloc, text)? {
+            Some(bytes) => self.port.step(alloc, call, bytes.as_slice(), shown),
+            None => Ok(false),
         }
     }
 }

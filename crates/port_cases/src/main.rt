@@ -1,8 +1,7 @@
-//! Runs cases of packets, of their streams, of a port's session and of a simulated market: standard input's lines, a
-//! verdict for each case to standard output.
+//! Runs cases of a port's session and of a simulated market: standard input's lines, a verdict for each case to
+//! standard output.
 //!
-//! A case makes the public calls of `soup_packets`, `soup_session` and `market_sim` alone. `README.md` has what a line
-//! may say.
+//! A case makes the public calls of `soup_session` and `market_sim` alone. `README.md` has what a line may say.
 #![tactic(auto)]
 
 mod calls;
