@@ -14,10 +14,10 @@ X = b"x" * 10_000
 
 def logged_out(client, more=b""):
     """Has a client logged out for a number that is too low, with more behind it; its next Logon is in order."""
-    before = len(client.frames)
+    before, number = len(client.frames), client.sent
     client.sent = 0
     client.stream.sendall(client.message(b"0") + more)
-    client.sent = before
+    client.sent = number
     return client.wait(lambda frame: frame.kind == b"5", begin=before)
 
 
@@ -201,7 +201,6 @@ def an_absent_client(stage):
         stage.holds("an order is open", client.told(name, b"0") is not None)
     last = client.frames[-1].number
     stage.holds("it is logged out", logged_out(client) is not None)
-    client.sent = 4
     for place in range(3):
         market.fill(place)
     stage.same("behind the Logout the link ends", "end", client.ending())
