@@ -79,6 +79,7 @@ def lost_links(stage):
     stage.holds("the other client's order is filled", two.told(b"A3", b"F") is not None)
     stage.holds("it logs out", two.log_out() is not None)
     two.ending()
+    two.close()
     stage.holds("it comes again", two.connect().log_on() is not None)
     stage.same("numbers of what it was sent go on", [it + 1 for it in range(len(two.frames))],
                [frame.number for frame in two.frames])

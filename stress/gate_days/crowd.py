@@ -66,6 +66,7 @@ def time_passes(stage, clients, markets, gateway):
     for client in clients:
         client.connect()
         began[client] = client.log_on((141, b"Y"))
+        stage.holds(f"{client.name} logs on again", began[client] is not None)
     for client in clients:
         begin = client.frames.index(began[client]) + 1
         heard = client.wait(lambda frame: frame.kind in (b"0", b"1"), begin=begin)
@@ -86,6 +87,7 @@ def full_rings(stage):
     first, between, *_, last = clients
     between.connect().log_on()
     for _ in range(3):
+        before = lost_links(gateway)
         stage.holds("both are held", are_held([first, last]))
         name = b"W%d" % between.sent
         between.order(name)
@@ -96,7 +98,7 @@ def full_rings(stage):
         for thread in threads:
             thread.join()
         # a machine that is slow for five seconds costs them their links: then once more
-        if "link fault 2" not in " ".join(gateway.lines()[-8:]):
+        if lost_links(gateway) == before:
             break
     for client in (first, last):
         names = [frame[112].split(b"-")[0] for frame in client.frames if frame.kind == b"0" and frame[112]]
@@ -105,6 +107,11 @@ def full_rings(stage):
         stage.holds(f"numbers of {client.name} go on",
                     [it + 1 for it in range(len(client.frames))] == [frame.number for frame in client.frames])
     stage.same("how the gateway ends", (0, 0), stage.end(gateway, "--now"))
+
+
+def lost_links(gateway):
+    """How many links ended since their peers read nothing."""
+    return gateway.errors.read_text().count(" link fault 2: ")
 
 
 def are_held(clients):

@@ -10,8 +10,10 @@ import socket
 import sys
 
 TRACE_ME, PEEK_USER, SYSTEM_CALL, DETACH, SET_OPTIONS = 0, 3, 24, 17, 0x4200
-# x86-64: the number of the system call among the registers, that of `listen`, and stops that are told apart by 0x80
-ORIG_RAX, LISTEN, GOOD = 15 * 8, 50, 1
+# x86-64: the number of the system call among the registers, and that of `listen`
+ORIG_RAX, LISTEN = 15 * 8, 50
+# stops at system calls are told apart by 0x80, and nothing that is traced outlives this program
+OPTIONS = 0x1 | 0x100000
 LISTENERS = 3
 
 library = ctypes.CDLL(None, use_errno=True)
@@ -36,7 +38,7 @@ def traced(words):
         trace(TRACE_ME)
         os.execv(words[0], words)
     os.waitpid(process, 0)
-    trace(SET_OPTIONS, process, 0, GOOD)
+    trace(SET_OPTIONS, process, 0, OPTIONS)
     return process
 
 

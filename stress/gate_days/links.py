@@ -14,10 +14,10 @@ X = b"x" * 10_000
 
 def logged_out(client, more=b""):
     """Has a client logged out for a number that is too low, with more behind it; its next Logon is in order."""
-    before = len(client.frames)
+    before, number = len(client.frames), client.sent
     client.sent = 0
     client.stream.sendall(client.message(b"0") + more)
-    client.sent = before
+    client.sent = number
     return client.wait(lambda frame: frame.kind == b"5", begin=before)
 
 
@@ -64,7 +64,7 @@ def what_no_frame_is(stage):
     stage.holds("the messages between are answered", answers(client, b"one", b"two"))
     client.close()
     stage.holds("the link is gone", gateway.says(" C1 gone\n"))
-    stage.same("skipped at once", (["skipped 7 bytes"], "gone"), skipped(gateway, 0))
+    stage.same("skipped at once", ["skipped 7 bytes", "gone"], told_of(gateway, "C1", 0))
     client.connect().log_on()
     one, two = client.message(b"1", (112, b"three")), client.message(b"1", (112, b"four"))
     for byte in b"abc" + one + b"de" + two + b"fg":
@@ -73,8 +73,7 @@ def what_no_frame_is(stage):
     stage.holds("the messages between are answered", answers(client, b"three", b"four"))
     client.close()
     stage.holds("the link is gone", holds_within(lambda: gateway.lines().count("C1 gone") == 2))
-    told, _ = skipped(gateway, 1)
-    counts = [int(line.split()[1]) for line in told]
+    counts = [int(line.split()[1]) for line in told_of(gateway, "C1", 1) if line.startswith("skipped")]
     grows = all(later >= 2 * earlier for earlier, later in zip(counts[:-1], counts[1:-1]))
     stage.holds("counts that double, and the last", grows and counts[-1:] == [7], repr(counts))
     client.connect().log_on()
@@ -98,17 +97,16 @@ def answers(client, *names):
     return len(places) == len(names) and places == sorted(places)
 
 
-def skipped(gateway, link):
-    """What is told of bytes that were skipped on a client's link of this place, and how the link ended."""
-    lines = [line[3:] for line in gateway.lines() if line.startswith("C1 ")]
+def told_of(gateway, whose, place):
+    """What is told of a client's or port's link of this place, from behind its beginning to the next one's."""
     links = []
-    for line in lines:
-        if line.startswith("up"):
+    for line in gateway.lines():
+        who, _, what = line.partition(" ")
+        if who == whose and what.startswith("up"):
             links.append([])
-        elif links:
-            links[-1].append(line)
-    told = links[link]
-    return [line for line in told if line.startswith("skipped")], told[-1]
+        elif who == whose and links:
+            links[-1].append(what)
+    return links[place]
 
 
 def a_port_is_connected_again(stage):
@@ -127,7 +125,9 @@ def a_port_is_connected_again(stage):
     time.sleep(2.5)
     market.listen()
     stage.holds("behind tries in vain it has a third", holds_within(lambda: len(market.came) == 3))
-    stage.same("they are told once", 1, sum("fault" in line for line in gateway.lines()))
+    # how the second link ended, and then why there was no third
+    stage.holds("tries in vain are told once", holds_within(lambda: len(told_of(gateway, "P1", 1)) == 2)
+                and told_of(gateway, "P1", 1)[1] == "link fault 1: read failed", repr(told_of(gateway, "P1", 1)))
     client.order(b"A1")
     stage.holds("an order is filled over it", client.told(b"A1", b"F") is not None)
     market.cut_at = 0
@@ -191,22 +191,23 @@ def processor(gateway):
 
 def an_absent_client(stage):
     """what a client is told while it is away isn't on its next link, until it asks"""
-    (client,), (address,) = stage.set_up(1)
+    (client, other), (address,) = stage.set_up(2)
     market = stage.market(address)
     gateway = stage.gateway("serve")
     client.connect().log_on()
+    other.connect().log_on()
     for name in (b"A1", b"A2", b"A3"):
         client.order(name, price=b"1")
         stage.holds("an order is open", client.told(name, b"0") is not None)
     last = client.frames[-1].number
     stage.holds("it is logged out", logged_out(client) is not None)
-    client.sent = 4
     for place in range(3):
         market.fill(place)
     stage.same("behind the Logout the link ends", "end", client.ending())
     client.close()
-    status = stage.folder / "told"
-    stage.holds("its link is over", holds_within(lambda: "C1 closed by the gateway" in gateway.lines()), str(status))
+    # what the market says stands in order: once this is told, so is what came before
+    other.order(b"B1")
+    stage.holds("another client's order is filled", other.told(b"B1", b"F") is not None)
     before = len(client.frames)
     stage.holds("it logs on again", client.connect().log_on() is not None)
     client.send(b"1", (112, b"here"))

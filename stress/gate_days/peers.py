@@ -146,10 +146,10 @@ class Market:
         return self
 
     def end(self):
-        """Nobody listens any more, and the link is gone."""
+        """Nobody listens any more, and then the link is gone."""
+        self.listener.close()
         self.is_over = True
         self.thread.join()
-        self.listener.close()
 
     def serve(self):
         while not self.is_over:

@@ -87,10 +87,10 @@ class Stage:
         if not is_so:
             raise Wrong(f"{what}: it isn't so{came and ', came '}{came}")
 
-    def within(self, what, least, seconds, most):
-        """So many seconds lie between these two."""
-        if seconds is None or not least <= seconds <= most:
-            raise Wrong(f"{what}: wanted {least} to {most} s, came {seconds}")
+    def within(self, what, least, came, most):
+        """What came lies between these two."""
+        if came is None or not least <= came <= most:
+            raise Wrong(f"{what}: wanted {least} to {most}, came {came}")
 
     def set_up(self, clients, ports=1, control=True, interval=30):
         """Settings of so many clients and ports, the clients in equal parts, with a control endpoint where one is

@@ -2,6 +2,7 @@
 import fcntl
 import subprocess
 import sys
+import threading
 import time
 
 from .peers import PATIENCE, holds_within
@@ -36,26 +37,22 @@ def lines_that_nobody_reads(stage):
             stage.holds("a message is rejected while nobody reads", answered(client, number + 2))
     stage.holds("the client is logged out", client.log_out() is not None)
     client.close()
-    told = read_to_end(stage, gateway, pipe)
-    lost = sum(int(line.split()[1]) for line in told if line.startswith("gateway: ") and "lines are lost here" in line)
-    kept = sum(" C1 sent 35=3|" in line for line in told)
-    other = sum(" C1 " in line and " sent 35=3|" not in line for line in told)
-    stage.holds("lines are lost", lost > MESSAGES - 2_000, str(lost))
-    stage.holds("no more than these", MESSAGES <= kept + lost <= MESSAGES + 3 and other >= 1, f"{kept} {lost} {other}")
+    told = []
+    reader = threading.Thread(target=lambda: told.extend(pipe), daemon=True)
+    reader.start()
+    stage.same("how the gateway ends", (0, 0), stage.end(gateway, "--now"))
+    reader.join()
+    lost = [int(line.split()[1]) for line in told if b"lines are lost here: nobody read standard error" in line]
+    kept = sum(b" C1 sent 35=3|" in line for line in told)
+    stage.holds("lines are lost", sum(lost) > MESSAGES - 2_000, str(lost))
+    # those of the Logout and of the link's end may be among them
+    stage.within("rejects that are told, and lines that are lost", MESSAGES, kept + sum(lost), MESSAGES + 3)
 
 
 def answered(client, number):
     """Whether its message of this number is rejected."""
     wanted = b"%d" % number
     return client.wait(lambda frame: frame.kind == b"3" and frame[45] == wanted, begin=max(0, number - 200)) is not None
-
-
-def read_to_end(stage, gateway, pipe):
-    """Reads standard error while the day ends: its lines."""
-    ending = subprocess.Popen([stage.program, "end", "--settings", str(stage.settings), "--now"])
-    told = pipe.read().decode()
-    stage.same("how the gateway ends", (0, 0), (ending.wait(PATIENCE), gateway.status()))
-    return told.splitlines()
 
 
 def a_demonstration_that_is_not_finished(stage):

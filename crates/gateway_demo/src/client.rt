@@ -43,13 +43,6 @@ impl<'a, R: Clock, S: Read + Write + Drop> Client<'a, R, S> {
         }
     }
 
-    /// The same session over another stream. The one it had is closed.
-    pub fn over(self, stream: S) -> Client<'a, R, S> {
-        let mut client = Client::new(self.rt, self.alloc, self.name, stream);
-        client.next = self.next;
-        client
-    }
-
     /// Logs on, and waits for the answer.
     pub fn log_on(&mut self) -> Result<(), DemoFault> {
         self.say("A", b"98=0\x01108=30\x01")?;
@@ -91,11 +84,6 @@ impl<'a, R: Clock, S: Read + Write + Drop> Client<'a, R, S> {
     /// Waits until so many orders are reported as filled.
     pub fn wait_for_fills(&mut self, count: u32) -> Result<(), DemoFault> {
         self.wait_for(count, 39, b"2")
-    }
-
-    /// Waits until so many orders are reported as refused.
-    pub fn wait_for_refusals(&mut self, count: u32) -> Result<(), DemoFault> {
-        self.wait_for(count, 39, b"8")
     }
 
     /// Now, as UTCTimestamp; the first moment of 1970 where the system's can't be had.

@@ -12,7 +12,6 @@ mod traders;
 
 pub use client::{Client, Order};
 pub use fault::DemoFault;
-pub use link_sockets::{Acceptor, Connector, Opened, Opener};
 pub use market::Market;
 pub use market_book::Choice;
 pub use serving::{ServedDemo, served_demo};
