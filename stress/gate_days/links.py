@@ -1,6 +1,7 @@
 """How links of clients and ports begin, are read, and end."""
 import calendar
 import os
+import re
 import socket
 import struct
 import time
@@ -231,13 +232,11 @@ def a_client_that_reads_nothing(stage):
     for client in others:
         client.connect().log_on()
     deaf.connect(room=4096).log_on()
-    for number in range(300):
-        deaf.order(b"N%d" % number, price=b"0")
     begin, asked = time.time(), 0
     deaf.stream.settimeout(0.05)
     spent, fault, end = [], None, time.monotonic() + PATIENCE
     while fault is None and time.monotonic() < end:
-        asked = asks_again(deaf, asked)
+        asked = asks(deaf, asked)
         for client in others:
             name = b"W%d" % len(spent)
             sent = time.monotonic()
@@ -254,15 +253,59 @@ def a_client_that_reads_nothing(stage):
     stage.same("how the gateway ends", (0, 0), stage.end(gateway, "--now"))
 
 
-def asks_again(client, asked):
-    """Asks for all messages again, up to 2,000 times in all, as long as somebody takes that."""
+def asks(client, asked):
+    """Sends Test Requests, up to 10,000 in all, as long as somebody takes them. Each brings back as many bytes."""
     try:
-        while asked < 2_000:
-            client.send(b"2", (7, b"1"), (16, b"0"))
+        while asked < 10_000:
+            client.send(b"1", (112, X[:1_000]))
             asked += 1
     except OSError:
-        return 2_000
+        return 10_000
     return asked
+
+
+def a_client_that_asks_for_too_much(stage):
+    """a client may ask for 50,000 messages again within an hour; then its link is ended, which is told; others trade, and
+    so does it when it comes again"""
+    (greedy, other), (address,) = stage.set_up(2)
+    stage.market(address)
+    gateway = stage.gateway("serve")
+    for client in (greedy, other):
+        client.connect().log_on()
+    for number in range(100):
+        greedy.order(b"R%d" % number, price=b"0")
+    stage.holds("its orders are refused", greedy.told(b"R99", b"8") is not None)
+    before, asked = len(greedy.frames), 50_000 // (greedy.frames[-1].number + 2)
+    for _ in range(asked):
+        greedy.send(b"2", (7, b"1"), (16, b"0"))
+    stage.holds("all of it is sent again", has_reports(greedy, before, 100 * asked))
+    more = b"".join(greedy.message(b"2", (7, b"1"), (16, b"0")) for _ in range(10))
+    greedy.stream.sendall(more)
+    stage.holds("then its link ends", greedy.ending() in ("end", "reset"))
+    line = r"C1 asks for \d+ messages again within an hour, limit 50000: its link is ended"
+    stage.holds("it is told why", holds_within(lambda: any(re.fullmatch(line, it) for it in gateway.lines())))
+    stage.holds("and that it is", gateway.says(" C1 link fault 4: "))
+    other.order(b"A1")
+    stage.holds("another's order is filled", other.told(b"A1", b"F") is not None)
+    greedy.close()
+    stage.holds("it logs on again", greedy.connect().log_on() is not None)
+    greedy.order(b"A1")
+    stage.holds("its order is filled", greedy.told(b"A1", b"F") is not None)
+    greedy.send(b"2", (7, b"1"), (16, b"0"))
+    stage.holds("its link ends again as it asks", greedy.ending() in ("end", "reset"))
+    stage.same("how the gateway ends", (0, 0), stage.end(gateway, "--now"))
+
+
+def has_reports(client, begin, count):
+    """Whether so many reports come behind the first frames."""
+    seen = 0
+
+    def is_last(frame):
+        nonlocal seen
+        seen += frame.kind == b"8"
+        return seen == count
+
+    return client.wait(is_last, begin=begin) is not None
 
 
 def seconds_of(text):
@@ -271,5 +314,5 @@ def seconds_of(text):
     return calendar.timegm(time.strptime(whole, "%Y%m%d-%H:%M:%S")) + int(part) / 1000
 
 
-STEPS_OF_LINKS = (a_client_that_reads_nothing, a_port_is_connected_again, last_words, closes_at_once, an_empty_packet,
-                  what_no_frame_is, an_absent_client, a_silent_day)
+STEPS_OF_LINKS = (a_client_that_reads_nothing, a_client_that_asks_for_too_much, a_port_is_connected_again, last_words,
+                  closes_at_once, an_empty_packet, what_no_frame_is, an_absent_client, a_silent_day)
