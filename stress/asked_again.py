@@ -164,7 +164,7 @@ def run(steps, program, seconds, reads):
                 gateway.kill()
         told = [line for line in errors.read_text().splitlines() if " C1 " in line]
         steps.is_so("it is told why its link is ended", any(TOLD in line for line in told))
-        steps.is_so("and its link is ended", any(line.endswith("C1 link fault 4") for line in told))
+        steps.is_so("and its link is ended", any(" C1 link fault 4: " in line for line in told))
         print("".join(line + "\n" for line in told), end="")
     market.end()
 
