@@ -40,8 +40,8 @@ impl Calls {
         }
     }
 
-    /// Makes the call of a line, and shows the line and what the call shows, if it does; a line that isn't understood is
-    /// shown.
+    /// Makes the call of a line, and shows the line and what the call shows, if it does; a line that isn't understood
+    /// is shown.
     pub fn take(
         &mut self,
         alloc: Global,
