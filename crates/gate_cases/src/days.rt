@@ -121,7 +121,7 @@ fn audit_fronts(
 ) -> Result<(), AllocError> {
     for size in from..file.len() {
         shown.extend_from_slice(format!(in alloc; "{size}: ")?.as_bytes())?;
-        audit(alloc, day, &file[..size], shown)?;
+        audit(alloc, day, file.get(..size).unwrap_or(&[]), shown)?;
     }
     Ok(())
 }
