@@ -3,21 +3,22 @@
 Each step has a gateway, clients and markets of its own, and prints a line on standard error: what it shows, and what was
 wanted and came where that differs. All that has to come is waited for as long as a busy machine may need; what mustn't
 come early is compared strictly. A step that is wrong though the machine gave this program no processor for two seconds
-meanwhile is made again, up to three times. The status is 0 where all steps are right. With names, those alone are made.
-"""
+meanwhile is made again, up to three times. One that needs what the machine refuses is left out, and says so. The status
+is 0 where no step is wrong. With names, those alone are made."""
 import os
 import sys
 import tempfile
 import threading
 import time
 import traceback
+from collections import Counter
 from concurrent.futures import ThreadPoolExecutor, as_completed
 
 from .command_line import STEPS_OF_COMMANDS
 from .counted_days import STEPS_OF_COUNTED_DAYS
 from .crowd import STEPS_OF_CROWDS
 from .links import STEPS_OF_LINKS
-from .stage import Addresses, Stage, Wrong
+from .stage import Addresses, LeftOut, Stage, Wrong
 from .telling import STEPS_OF_TELLING
 
 # the longest first, so that the others go on beside them
@@ -45,29 +46,32 @@ def made_again(step, program, addresses, machine):
     """Makes a step, and again where it is wrong and the machine stood still meanwhile."""
     for _ in range(TRIES):
         begin = time.monotonic()
-        lines, is_right = made(step, program, addresses)
-        if is_right or machine.stood_still < begin:
+        lines, how = made(step, program, addresses)
+        if how != "WRONG" or machine.stood_still < begin:
             break
         lines.append("       the machine stood still meanwhile")
-    return lines, is_right
+    return lines, how
 
 
 def made(step, program, addresses):
     """Makes a step: what to print of it, and whether it is right."""
-    begin, wrong, told = time.monotonic(), None, []
+    begin, wrong, left_out, told = time.monotonic(), None, None, []
     with tempfile.TemporaryDirectory() as folder:
         stage = Stage(program, addresses, folder)
         try:
             step(stage)
         except Wrong as it:
             wrong, told = str(it), stage.told()
+        except LeftOut as it:
+            left_out = str(it)
         except Exception:  # whatever else ends a step is wrong too
             wrong, told = traceback.format_exc().strip(), stage.told()
         stage.clear()
     what = " ".join(step.__doc__.split())
-    lines = [f"{'WRONG' if wrong else 'right'}  {step.__name__} ({time.monotonic() - begin:.1f} s): {what}"]
-    lines += [f"       {wrong}"] * bool(wrong) + [f"       told: {it}" for it in told]
-    return lines, not wrong
+    how = "WRONG" if wrong else "left out" if left_out else "right"
+    lines = [f"{how}  {step.__name__} ({time.monotonic() - begin:.1f} s): {what}"]
+    lines += [f"       {it}" for it in (wrong, left_out) if it] + [f"       told: {it}" for it in told]
+    return lines, how
 
 
 def main():
@@ -76,15 +80,15 @@ def main():
     if not os.access(program, os.X_OK) or not steps:
         print(f"no gateway at {program}, or no such step", file=sys.stderr)
         return 2
-    addresses, machine, wrong = Addresses(), Machine(), 0
+    addresses, machine, ways = Addresses(), Machine(), Counter()
     with ThreadPoolExecutor(AT_ONCE) as pool:
         for done in as_completed([pool.submit(made_again, step, program, addresses, machine) for step in steps]):
-            lines, is_right = done.result()
+            lines, how = done.result()
             print("\n".join(lines), file=sys.stderr, flush=True)
-            wrong += not is_right
-    print(f"days of the gateway: {len(steps) - wrong} right, {wrong} wrong, in {time.monotonic() - begin:.0f} s",
-          file=sys.stderr)
-    return 1 if wrong else 0
+            ways[how] += 1
+    sums = f"{ways['right']} right, {ways['WRONG']} wrong, {ways['left out']} left out"
+    print(f"days of the gateway: {sums}, in {time.monotonic() - begin:.0f} s", file=sys.stderr)
+    return 1 if ways["WRONG"] else 0
 
 
 if __name__ == "__main__":

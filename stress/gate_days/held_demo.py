@@ -15,6 +15,8 @@ ORIG_RAX, LISTEN = 15 * 8, 50
 # stops at system calls are told apart by 0x80, and nothing that is traced outlives this program
 OPTIONS = 0x1 | 0x100000
 LISTENERS = 3
+# the status where this machine lets nobody trace
+NO_TRACE = 3
 
 library = ctypes.CDLL(None, use_errno=True)
 library.ptrace.restype = ctypes.c_long
@@ -27,7 +29,7 @@ def trace(request, process=0, address=0, value=0):
     answer = library.ptrace(request, process, address, value)
     if answer == -1 and ctypes.get_errno():
         print("ptrace:", os.strerror(ctypes.get_errno()), file=sys.stderr)
-        os._exit(3)
+        os._exit(NO_TRACE)
     return answer
 
 

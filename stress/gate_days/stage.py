@@ -69,6 +69,10 @@ class Wrong(Exception):
     """What was wanted, and what came: a step ends at the first of these."""
 
 
+class LeftOut(Exception):
+    """What the machine refuses that a step needs: the step can't be made there, and says so."""
+
+
 class Stage:
     """A step's gateway, clients and markets."""
 

@@ -5,7 +5,9 @@ import sys
 import threading
 import time
 
+from .held_demo import NO_TRACE
 from .peers import PATIENCE, holds_within
+from .stage import LeftOut
 
 MESSAGES = 4_000
 
@@ -60,6 +62,8 @@ def a_demonstration_that_is_not_finished(stage):
     begin = time.monotonic()
     ran = subprocess.run([sys.executable, "-m", "stress.gate_days.held_demo", stage.program], capture_output=True,
                          text=True, timeout=PATIENCE, check=False)
+    if ran.returncode == NO_TRACE:
+        raise LeftOut(ran.stderr.strip())
     told = [line for line in ran.stderr.splitlines() if " orders wait, since " not in line]
     stage.same("what it comes to", (1, "", ["demo: not finished"]), (ran.returncode, ran.stdout, told))
     stage.within("seconds", 9.9, time.monotonic() - begin, PATIENCE)
