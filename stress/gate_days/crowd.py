@@ -79,12 +79,11 @@ def time_passes(stage, clients, markets, gateway):
 
 def full_rings(stage):
     """two clients that read nothing are held once their rings are full; a third is served; once the two read, each hears
-    all, in order"""
-    # the more clients there are, the more ticks have what was held stepped
-    clients, (address,) = stage.set_up(24)
+    all, in order, and soon behind what it sent last"""
+    clients, (address,) = stage.set_up(3)
     stage.market(address)
     gateway = stage.gateway("serve")
-    first, between, *_, last = clients
+    first, between, last = clients
     between.connect().log_on()
     for _ in range(3):
         before = lost_links(gateway)
@@ -104,6 +103,7 @@ def full_rings(stage):
         names = [frame[112].split(b"-")[0] for frame in client.frames if frame.kind == b"0" and frame[112]]
         stage.holds(f"{client.name} hears all, in order", names == [b"%d" % it for it in range(client.asked)],
                     f"{len(names)} of {client.asked}")
+        stage.within(f"seconds in which {client.name} hears what was held", 0, client.spent, 12)
         stage.holds(f"numbers of {client.name} go on",
                     [it + 1 for it in range(len(client.frames))] == [frame.number for frame in client.frames])
     stage.same("how the gateway ends", (0, 0), stage.end(gateway, "--now"))
@@ -145,14 +145,18 @@ def sends(client):
 
 
 def hears(client):
-    """Sends what is left, and reads until all is answered."""
-    end = time.monotonic() + PATIENCE
+    """Sends what is left, and reads until all is answered. How long that takes behind what was left it keeps as
+    `spent`."""
+    end = begin = time.monotonic() + PATIENCE
     while len(client.frames) <= client.asked and time.monotonic() < end:
+        if not client.left:
+            begin = min(begin, time.monotonic())
         ready = select.select([client.stream], [client.stream] if client.left else [], [], 1)
         if ready[1]:
             sends(client)
         if ready[0] and not client.read(1):
             break
+    client.spent = since(begin)
 
 
 STEPS_OF_CROWDS = (full_rings, all_trade)

@@ -14,14 +14,16 @@ use std::sync::Wait;
 const FULL: u32 = 1_024;
 
 /// The handle of a writer: takes output through an outlet. Once it has taken as many lists in a row as make a client's
-/// messages wait, it turns the desk, since one may wait for that room. Nothing is put through it.
+/// messages wait, it owes the desk as many turns, since so many may wait for that room: it makes one at a time, until
+/// one steps nothing. Nothing is put through it.
 #[derive(Drop)]
 pub struct OutletGate<'a, K: DeskName, S: BuildHasher + Drop = BuildHasherDefault<FoldHasher>> {
     shared: &'a Shared<K, S>,
     outlet: Outlet<K>,
-    /// The lists that were taken since the queue was empty, or since the last turn: a turn that is owed isn't forgotten
-    /// if the queue is empty.
+    /// The lists that were taken since the queue was empty, or since turns were owed last.
     in_a_row: u32,
+    /// The turns that are owed: they aren't forgotten if the queue is empty.
+    owed: u32,
     /// The outlet as it was at first: for contracts alone.
     first: Snapshot<Outlet<K>>,
     ghost since: { Earlier first.value outlet },
@@ -42,6 +44,7 @@ impl<'a, K: DeskName, S: BuildHasher + Drop> OutletGate<'a, K, S> {
             shared,
             outlet,
             in_a_row: 0,
+            owed: 0,
             first,
         }
     }
@@ -54,6 +57,7 @@ impl<'a, K: DeskName, S: BuildHasher + Drop> OutletGate<'a, K, S> {
             shared: _,
             outlet,
             in_a_row: _,
+            owed: _,
             first: _,
         } = self;
         outlet.finish()
@@ -77,23 +81,29 @@ impl<'a, K: DeskName, S: BuildHasher + Drop> Gate for OutletGate<'a, K, S> {
 
     fn take(&mut self) -> Option<ShortList<LinkOut>> {
         let Some(told) = self.outlet.take() else {
-            if self.in_a_row < FULL {
-                self.in_a_row = 0;
-            }
+            self.in_a_row = 0;
             return None;
         };
         self.in_a_row = self.in_a_row.saturating_add(1);
+        if self.in_a_row >= FULL {
+            self.in_a_row = 0;
+            self.owed = FULL;
+        }
         Some(told.into_outs())
     }
 
-    /// Turns the desk once if as many lists were taken, one after another, as make a client's messages wait. It waits
-    /// for the desk's lock.
+    /// Turns the desk once if a turn is owed; where that steps nothing, nothing waits, and none is owed any more. It
+    /// waits for the desk's lock. Where memory is refused the turn is still owed.
     fn turn<R: Wait>(&mut self, rt: &R, alloc: Global) -> Result<u32, AllocError> {
-        if self.in_a_row < FULL {
+        if self.owed == 0 {
             return Ok(0);
         }
-        self.in_a_row = 0;
         let turned = self.shared.turn(rt, alloc)?;
+        self.owed = if turned.steps == 0 {
+            0
+        } else {
+            self.owed.saturating_sub(1)
+        };
         Ok(turned.steps)
     }
 }
