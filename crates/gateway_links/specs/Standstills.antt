@@ -1,5 +1,5 @@
 -- When ticks go through behind a standstill of the process: this gateway's own. Moments are in milliseconds.
-use Rattle.std.specs.Prelude.{◌≡◌, refl, ℕ, ◌+◌, ◌-◌, ◌^◌, ◌==◌, ◌&&◌, nat_lt, nat_le, min, max, not, Bool, true, false}
+use Rattle.std.specs.Prelude.{◌≡◌, refl, ℕ, ◌+◌, ◌-◌, ◌^◌, ◌==◌, ◌&&◌, nat_lt, nat_le, min, not, Bool, true, false}
 use Rattle.std.specs.Prelude.{List, [], ◌∷◌, if◌then◌else◌}
 use Rattle.gateway_links.specs.declared.standstill.Standstill.{Standstill}
 
@@ -10,9 +10,9 @@ begun = record { last = 0; until = 0 }
 abbrev pub later : ℕ → ℕ → ℕ
 later at by = min (at + by) (2 ^ 64 - 1)
 
--- a tick comes more than a second behind the one before, and behind what was waited for last
+-- a tick comes more than a second behind the one before, which went through
 abbrev pub stood_still : Standstill → ℕ → Bool
-stood_still s at = not (s.last == 0) && nat_lt (later (max s.last s.until) 1000) at
+stood_still s at = not (s.last == 0) && nat_le s.until s.last && nat_lt (later s.last 1000) at
 
 -- then for a second none goes through
 abbrev pub after : Standstill → ℕ → Standstill
@@ -44,3 +44,7 @@ none_for_a_second_behind_a_standstill = refl
 a_slow_machine_has_every_other_tick :
     through begun (5000 ∷ 6500 ∷ 8000 ∷ 9500 ∷ 11000 ∷ []) ≡ true ∷ false ∷ true ∷ false ∷ true ∷ []
 a_slow_machine_has_every_other_tick = refl
+
+one_that_is_slower_too :
+    through begun (5000 ∷ 9000 ∷ 13000 ∷ 17000 ∷ 21000 ∷ []) ≡ true ∷ false ∷ true ∷ false ∷ true ∷ []
+one_that_is_slower_too = refl

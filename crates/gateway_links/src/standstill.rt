@@ -27,14 +27,14 @@ impl Standstill {
         Standstill { last: 0, until: 0 }
     }
 
-    /// What is known behind a tick of this moment. A machine so slow that each round takes as long as a standstill has
-    /// ticks nevertheless, in every other round.
+    /// What is known behind a tick of this moment. While none goes through another standstill isn't looked for: so a
+    /// machine so slow that each round takes as long as one has ticks nevertheless, in every other round.
     pub(crate) fn after(self, at: u64) -> Standstill
         ensures { result ≡ spec.after self at }
     {
         let Standstill { last, until } = self;
-        let latest = last.max(until).saturating_add(LONGEST_ROUND);
-        if last != 0 && latest < at {
+        let latest = last.saturating_add(LONGEST_ROUND);
+        if last != 0 && until <= last && latest < at {
             Standstill {
                 last: at,
                 until: at.saturating_add(FOR_READERS),
