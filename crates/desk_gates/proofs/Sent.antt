@@ -25,7 +25,10 @@ module _ (K S T : RattleType) (k : DeskName.Ghosts K.Denot) (g : BuildHasher.Gho
   pub outlet_gate_send : (a : NamedLft) → IsSend (OutletGate.the_row a K S T k g h)
   outlet_gate_send a = let shared = shared_sync K S T k g h ss in declared_send (OutletGate.the_type a K S T k g h) (
     search (shared, sendable) depth 40,
-    (search (outlet_send, sendable) depth 40, (search sendable depth 40, (search (sendable, crosses) depth 40, tt))),
+    (
+      search (outlet_send, sendable) depth 40,
+      (search sendable depth 40, (search sendable depth 40, (search (sendable, crosses) depth 40, tt))),
+    ),
   )
 
 module _ (W G : RattleType) (p : Prompt.Ghosts W.Denot) (w : Write.Ghosts W.Denot) (e : OutletEnd.Ghosts G.Denot)
