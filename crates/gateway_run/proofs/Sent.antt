@@ -1,34 +1,55 @@
 -- What a line of a gateway holds may go to another thread, since what the threads share of a desk may be shared.
 use denote.RattleType.{RattleType}
 use denote.Ref.{NamedLft}
-use denote.Param.Send.{IsSend, IsSync, sendable}
-use denote.Param.SendFields.{declared_send, declared_sync}
+use denote.Param.Send.{IsSend, IsSync, enum_send, recorded_send, sendable}
+use denote.Enum.Declared as E
+use denote.Param.SendFields.{declared_send}
 use Rattle.std.proofs.Crossing.{crosses}
 use Rattle.std.specs.declared.hash.BuildHasher as BuildHasher
 use Rattle.std.specs.declared.hash.Hasher as Hasher
 use Rattle.desk_gates.proofs.desk.Sent.{shared_sync}
-use Rattle.gateway_day.proofs.Sent.{clock_send}
-use Rattle.gateway_log.proofs.Sent.{teller_send}
+use Rattle.status_board.proofs.Sent.{board_sync}
 use Rattle.desk_gates.specs.desk.declared.DeskName as DeskName
 use Rattle.desk_gates.specs.contracts.bell.BellClock as BellClock
-use Rattle.gateway_day.specs.contracts.clock.RunClock as RunClock
-use Rattle.gateway_run.specs.contracts.run_desk.RunDesk as RunDesk
+use Rattle.gateway_run.specs.contracts.counted.CountedLinks as CountedLinks
+use Rattle.gateway_run.specs.contracts.run_opener.RunOpener as RunOpener
+use Rattle.gateway_run.specs.contracts.clock.RunClock as RunClock
+use Rattle.gateway_run.specs.contracts.clock.Watch as Watch
+use Rattle.gateway_run.specs.contracts.port_faults.PortLinks as PortLinks
+use Rattle.gateway_run.specs.contracts.memory_watch.MemoryWatch as MemoryWatch
+use Rattle.host_log.specs.contracts.later.LaterSync as LaterSync
+use Rattle.gateway_run.specs.contracts.order_watch.OrderWatch as OrderWatch
+use Rattle.gateway_run.specs.contracts.run_gate.RunGate as RunGate
+use Rattle.gateway_run.specs.contracts.sync_timer.SyncTimer as SyncTimer
+use Rattle.gateway_run.specs.contracts.telling.Teller as Teller
 use Rattle.gateway_run.specs.contracts.telling_gate.TellingGate as TellingGate
 
-pub desk_sync : (K : RattleType) (k : DeskName.Ghosts K.Denot) → IsSync (RunDesk.the_row K k)
-desk_sync K k = declared_sync (RunDesk.the_type K k) (search (shared_sync, sendable, crosses) depth 40, tt)
+later_send : IsSend LaterSync.the_row
+later_send = search (sendable, crosses) depth 100 fits 500000
+
+timer_send : IsSend (SyncTimer.the_row LaterSync.the_row)
+timer_send = search (later_send, sendable, crosses) depth 100 fits 500000
 
 module _ (a : NamedLft) (R : RattleType) (r : IsSync R) where
+  pub teller_send : IsSend (Teller.the_row a R)
+  teller_send = declared_send (Teller.the_type a R)
+      (search (r, sendable) depth 40, (search (sendable, crosses) depth 40, tt))
+
   pub telling_send : (G : RattleType) → IsSend G → IsSend (TellingGate.the_row a G R)
   telling_send G g = declared_send (TellingGate.the_type a G R) (
     search (g, sendable) depth 40,
-    (search (sendable, crosses) depth 40, (search (teller_send, r, sendable) depth 40, tt)),
+    (search (sendable, crosses) depth 40, (search (teller_send, sendable) depth 40, tt)),
   )
 
-module _ (a : NamedLft) (K R : RattleType) (k : DeskName.Ghosts K.Denot) (r : IsSync R) where
-  pub run_clock_send : IsSend (RunClock.the_row a (RunDesk.the_row K k) R)
-  run_clock_send = clock_send a (RunDesk.the_row K k) R (desk_sync K k) r
+  pub memory_watch_send : IsSend (MemoryWatch.the_row a R)
+  memory_watch_send = declared_send (MemoryWatch.the_type a R)
+      (search (teller_send, sendable) depth 40, (search (sendable, crosses) depth 40, tt))
 
+  pub order_watch_send : IsSend (OrderWatch.the_row a R)
+  order_watch_send = declared_send (OrderWatch.the_type a R)
+      (search (r, sendable) depth 40, (search (sendable, crosses) depth 40, (search (sendable, crosses) depth 40, tt)))
+
+module _ (a : NamedLft) (K R : RattleType) (k : DeskName.Ghosts K.Denot) (r : IsSync R) where
   pub bell_send : (S T : RattleType) (g : BuildHasher.Ghosts S.Denot T.Denot) (h : Hasher.Ghosts T.Denot) → IsSend S
       → IsSend (BellClock.the_row a K R S T k g h)
   bell_send S T g h s = let shared = shared_sync K S T k g h s in declared_send (BellClock.the_type a K R S T k g h) (
@@ -41,3 +62,95 @@ module _ (a : NamedLft) (K R : RattleType) (k : DeskName.Ghosts K.Denot) (r : Is
       ),
     ),
   )
+
+  pub port_links_send : (C : RattleType) → IsSend C → IsSend (PortLinks.the_row a C K R k)
+  port_links_send C c = declared_send (PortLinks.the_type a C K R k) (
+    search (r, sendable),
+    (
+      search (shared_sync, sendable) depth 40,
+      (
+        search sendable depth 40,
+        (
+          search (c, sendable),
+          (
+            search sendable,
+            (
+              search sendable,
+              (
+                search (sendable, crosses) depth 40,
+                (
+                  search (sendable, crosses) depth 40,
+                  (search sendable, (search (sendable, crosses) depth 40, tt)),
+                ),
+              ),
+            ),
+          ),
+        ),
+      ),
+    ),
+  )
+
+  pub watch_send : IsSend (Watch.the_row a K R k)
+  watch_send = declared_send (Watch.the_type a K R k) (
+    search (r, sendable),
+    (
+      search (sendable, crosses) depth 40,
+      (
+        search (shared_sync, sendable) depth 40,
+        (
+          search (sendable, crosses) depth 40,
+          (
+            search (sendable, crosses) depth 40,
+            (
+              search (board_sync, sendable) depth 40,
+              (
+                search sendable,
+                (
+                  search (memory_watch_send a R r, sendable) depth 40,
+                  (
+                    search sendable,
+                    (search (order_watch_send a R r, sendable) depth 40, (search (timer_send, sendable) depth 40, tt)),
+                  ),
+                ),
+              ),
+            ),
+          ),
+        ),
+      ),
+    ),
+  )
+
+  pub run_gate_send : (G : RattleType) → IsSend G → IsSend (RunGate.the_row a G K R k)
+  run_gate_send G g = declared_send (RunGate.the_type a G K R k) (
+    search (g, sendable) depth 40,
+    (
+      search (r, sendable) depth 40,
+      (
+        search (sendable, crosses) depth 40,
+        (
+          search (shared_sync, sendable) depth 40,
+          (
+            search (teller_send, r, sendable) depth 40,
+            (
+              search sendable,
+              (search (sendable, crosses) depth 40, (search sendable, (search sendable, (search sendable, tt)))),
+            ),
+          ),
+        ),
+      ),
+    ),
+  )
+
+  pub run_clock_send : IsSend (RunClock.the_row a K R k)
+  run_clock_send = declared_send (RunClock.the_type a K R k)
+      (search (r, sendable) depth 40, (search (watch_send, sendable) depth 40, tt))
+
+pub counted_send : (a : NamedLft) (A : RattleType) → IsSend A → IsSend (CountedLinks.the_row a A)
+counted_send a A s = declared_send (CountedLinks.the_type a A)
+    (search (s, sendable) depth 40, (search (sendable, crosses) depth 40, (search (sendable, crosses) depth 40, tt)))
+
+pub opener_send : (a b : NamedLft) (A C K R : RattleType) (k : DeskName.Ghosts K.Denot) → IsSend A → IsSend C → IsSync R
+    → IsSend (RunOpener.the_row (CountedLinks.the_row a A) (PortLinks.the_row b C K R k))
+opener_send a b A C K R k s c r = let O = RunOpener.the_type (CountedLinks.the_row a A) (PortLinks.the_row b C K R k) in
+    recorded_send _ _ _ O.to_one (enum_send (E.shape O)
+    (search (counted_send a A s, port_links_send b K R k r C c, sendable) depth 40))

@@ -1,8 +1,11 @@
+pub mod Openers
 pub mod Own
-pub use Rattle.gateway_day.specs.Holds
-pub use Rattle.gateway_day.specs.Kept
-pub use Rattle.gateway_day.specs.Pairs
-pub use Rattle.gateway_day.specs.Lines
-pub use Rattle.gateway_day.specs.Said
-pub use Rattle.gateway_day.specs.Told
-pub use Rattle.gateway_day.specs.gate_law as gate_law
+pub mod Stopped
+pub mod Told
+pub mod Waiting
+pub use Rattle.gate_law.specs.Holds
+pub use Rattle.audit_lines.specs.gate_audit.gate_journal.Kept
+pub use Rattle.audit_lines.specs.gate_audit.Pairs
+pub use Rattle.audit_lines.specs.Lines
+pub use Rattle.journal_file.specs.Said
+pub use Rattle.gate_law.specs as gate_law

@@ -1,12 +1,14 @@
 //! A gateway by its settings file.
 
 ghost use Rattle.std.specs.Prelude.{IfOk};
-ghost use Rattle.gateway_day.specs.Told.{NobodyIsUp};
+ghost use Rattle.gateway_run.specs.Told.{NobodyIsUp};
 
-use crate::plan::{LinkRules, RunPlan};
+use crate::day::{Day, with_nobody_up};
+use crate::day_journal::DayJournal;
+use crate::ends::{LinkRules, RunPlan};
+use crate::fault::RunFault;
 use crate::running::run_shown;
-use gateway_day::{Day, DayJournal, RunFault, with_nobody_up};
-use gateway_log::{Teller, Telling, Whose};
+use crate::telling::{Teller, Telling, Whose};
 use link_sockets::{Acceptor, Connector};
 use settings_file::SettingsFile;
 use status_board::StatusBoard;

@@ -3,21 +3,35 @@
 #![tactic(auto)]
 
 mod by_settings;
+mod clock;
+mod counted;
+mod day;
+mod day_journal;
 mod ends;
-mod left;
+mod fault;
 mod lines;
-mod plan;
+mod login_pause;
+mod memory_watch;
+mod order_watch;
+mod port_faults;
 mod resuming;
-mod run_desk;
+mod run_gate;
+mod run_opener;
 mod running;
-mod serving;
+mod sync_timer;
+mod telling;
 mod telling_gate;
 
+pub use audit_lines::{OrderPair, ReadingFault, Settings, audit};
 pub use by_settings::{end_stopped, run_settings};
+pub use day::{Day, audit_day, end_day, has_day, tell};
+pub use day_journal::{DayJournal, StoppedFault};
+pub use ends::{LinkRules, RunPlan};
+pub use fault::RunFault;
 pub use gate_events::PortNumber;
-pub use gateway_day::{Day, DayJournal, RunFault, StoppedFault, audit_day, end_day, has_day, tell};
-pub use plan::{LinkRules, RunPlan};
 pub use running::{run, run_shown};
 pub use settings_file::{SettingsFault, SettingsFile, read};
 pub use soup_session::PortFault;
 pub use status_board::StatusBoard;
+pub use sync_timer::SyncTimer;
+pub use telling::{Teller, Whose};

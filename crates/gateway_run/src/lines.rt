@@ -1,18 +1,22 @@
 //! The lines of a gateway, over the ends of its desk.
 
-ghost use Rattle.std.specs.Prelude.{◌≡◌, None, IfSome};
+ghost use Rattle.std.specs.Prelude.{◌≡◌, All, [], None, IfSome};
 ghost use Rattle.gate_events.specs.declared.source.Source.TheVariants as sources;
 
-use crate::run_desk::RunDesk;
+use crate::clock::RunClock;
+use crate::counted::{ClientCounts, CountedLinks};
+use crate::port_faults::PortLinks;
+use crate::run_gate::RunGate;
+use crate::run_opener::RunOpener;
+use crate::sync_timer::SyncTimer;
+use crate::telling::{Teller, Whose};
 use crate::telling_gate::TellingGate;
 use desk_gates::{
-    BellClock, DeskName, Inlet, InletGate, Outlet, OutletEnd, OutletGate, OutletPen, Prompt,
+    BellClock, DeskName, Finished, Inlet, InletGate, Outlet, OutletEnd, OutletGate, OutletPen,
+    Prompt, Shared,
 };
 use gate_events::{Recipient, Source};
-use gate_serving::{Line, PenWorker, Ticks, Worker};
-use gateway_day::{RunClock, SyncTimer};
-use gateway_links::{ClientCounts, CountedLinks, PortLinks, RunGate, RunOpener};
-use gateway_log::{Teller, Whose};
+use gate_serving::{Line, LinkFault, PenWorker, Ticks, Worker};
 use host_log::LaterSync;
 use status_board::StatusBoard;
 use std::alloc::{AllocError, Global};
@@ -32,7 +36,7 @@ fn longest_sleep() -> Duration {
 /// The gate of a reader, or of the ticker, over an inlet.
 pub(crate) type ReadingGate<'p, 'a, W, G, K, R> = TellingGate<
     'a,
-    RunGate<'a, InletGate<'p, 'a, W, G, K, RandomState>, RunDesk<K>, R>,
+    RunGate<'a, InletGate<'p, 'a, W, G, K, RandomState>, K, R>,
     R,
 >;
 
@@ -41,8 +45,8 @@ pub(crate) type WritingGate<'a, K, R> = TellingGate<'a, OutletGate<'a, K, Random
 
 /// A line of a gateway.
 pub(crate) type RunLine<'p, 'a, W, G, A, C, K, R> = Line<
-    RunOpener<CountedLinks<'a, A>, PortLinks<'a, C, RunDesk<K>, R>>,
-    Worker<ReadingGate<'p, 'a, W, G, K, R>, RunClock<'a, RunDesk<K>, R>>,
+    RunOpener<CountedLinks<'a, A>, PortLinks<'a, C, K, R>>,
+    Worker<ReadingGate<'p, 'a, W, G, K, R>, RunClock<'a, K, R>>,
     PenWorker<'p, W, G, BellClock<'a, K, R, RandomState>>,
 >;
 
@@ -50,7 +54,7 @@ pub(crate) type RunLine<'p, 'a, W, G, A, C, K, R> = Line<
 pub(crate) type RunTicks<'p, 'a, W, G, K, R> = Ticks<
     'a,
     ReadingGate<'p, 'a, W, G, K, R>,
-    RunClock<'a, RunDesk<K>, R>,
+    RunClock<'a, K, R>,
 >;
 
 /// How many clients and ports there are.
@@ -63,9 +67,9 @@ pub(crate) struct Count {
 /// The line of a client or port over the gate of its inlet and the pen of its outlet, both at this position.
 pub(crate) fn line_of<'p, 'a, W: Prompt + Drop, G: OutletEnd + Drop, A, C, K, R>(
     rt: &'a R,
-    desk: &'a RunDesk<K>,
+    shared: &'a Shared<K, RandomState>,
     peer: Recipient,
-    opener: RunOpener<CountedLinks<'a, A>, PortLinks<'a, C, RunDesk<K>, R>>,
+    opener: RunOpener<CountedLinks<'a, A>, PortLinks<'a, C, K, R>>,
     gate: ReadingGate<'p, 'a, W, G, K, R>,
     at: usize,
     pen: &'p OutletPen<W, G>,
@@ -87,10 +91,7 @@ where
             gate,
             clock: RunClock::new(rt),
         },
-        writer: PenWorker::new(
-            pen.pen(),
-            BellClock::new(rt, &desk.shared, at, longest_sleep()),
-        ),
+        writer: PenWorker::new(pen.pen(), BellClock::new(rt, shared, at, longest_sleep())),
     }
 }
 
@@ -99,7 +100,7 @@ where
 pub(crate) fn ticks_of<'p, 'a, W: Prompt + Drop, G: OutletEnd + Drop, K, R>(
     rt: &'a R,
     alloc: Global,
-    desk: &'a RunDesk<K>,
+    shared: &'a Shared<K, RandomState>,
     count: Count,
     ports_of: &'a [u16],
     counts: &'a ClientCounts,
@@ -116,32 +117,105 @@ where
 {
     if inlet.source() == Source::Clock {
         let Count { clients, ports } = count;
-        let own = InletGate::new(&desk.shared, pens, inlet);
-        let own = RunGate::new(rt, alloc, desk, own, None, None);
+        let own = InletGate::new(shared, pens, inlet);
+        let own = RunGate::new(rt, alloc, shared, own, None, None);
         let gate = TellingGate::new(alloc, own, None);
         return Some(Ticks {
             clients,
             ports,
             is_over,
             gate,
-            clock: RunClock::watching(rt, alloc, desk, counts, ports_of, is_over, board, syncs),
+            clock: RunClock::watching(rt, alloc, shared, counts, ports_of, is_over, board, syncs),
         });
     }
     None
+}
+
+/// What is left of lines that were served.
+#[derive(Drop)]
+pub(crate) struct Left<K: DeskName> {
+    /// What was put through their inlets, and what was taken from their outlets.
+    pub(crate) finished: Vec<Finished<K>>,
+    /// The first fault of a link.
+    pub(crate) fault: Option<LinkFault>,
+}
+
+impl<K: DeskName> Left<K> {
+    /// Nothing yet, with room for what is left of so many inlets and outlets: so that no memory is wanted once all was
+    /// served.
+    pub(crate) fn with_room(
+        alloc: Global,
+        inlets: usize,
+        outlets: usize,
+    ) -> Result<Left<K>, AllocError> {
+        Ok(Left {
+            finished: Vec::with_capacity(alloc, inlets.saturating_add(outlets))?,
+            fault: None,
+        })
+    }
+
+    /// Ends the inlets of lines, and keeps what was put, and the first fault.
+    pub(crate) fn end_lines<'p, 'a, W: Prompt + Drop, G: OutletEnd + Drop, A: Drop, C: Drop, R>(
+        &mut self,
+        lines: Vec<RunLine<'p, 'a, W, G, A, C, K, R>>,
+    ) -> Result<(), AllocError> {
+        for line in lines {
+            let Line { fault, reader, .. } = line;
+            self.end_inlet(reader.gate.into_gate().into_gate())?;
+            self.fault = self.fault.or(fault);
+        }
+        Ok(())
+    }
+
+    /// Ends the inlet of ticks, and keeps what was put.
+    pub(crate) fn end_ticks<'p, 'a, W: Prompt + Drop, G: OutletEnd + Drop, R>(
+        &mut self,
+        ticks: Option<RunTicks<'p, 'a, W, G, K, R>>,
+    ) -> Result<(), AllocError> {
+        let Some(ticks) = ticks else {
+            return Ok(());
+        };
+        let Ticks { gate, .. } = ticks;
+        self.end_inlet(gate.into_gate().into_gate())
+    }
+
+    /// Ends the inlet of a gate, and keeps what was put.
+    fn end_inlet<W: Prompt + Drop, G: OutletEnd + Drop>(
+        &mut self,
+        gate: InletGate<'_, '_, W, G, K, RandomState>,
+    ) -> Result<(), AllocError> {
+        if let Some(put) = gate.finish() {
+            self.finished.push(put)?;
+        }
+        Ok(())
+    }
+
+    /// Ends the outlets of pens, and keeps what was taken. One whose link isn't over is let go.
+    pub(crate) fn end_outlets<'a, W: Prompt + Drop, R: Clock + Eprint>(
+        &mut self,
+        pens: Vec<OutletPen<W, WritingGate<'a, K, R>>>,
+    ) -> Result<(), AllocError> {
+        for pen in pens {
+            if let Some(gate) = pen.into_gate() {
+                self.finished.push(gate.into_gate().finish())?;
+            }
+        }
+        Ok(())
+    }
 }
 
 /// The pens of a desk's outlets, by position.
 pub(crate) fn pens_of<'a, W: Prompt + Drop, K: DeskName, R: Clock + Eprint>(
     rt: &'a R,
     alloc: Global,
-    desk: &'a RunDesk<K>,
+    shared: &'a Shared<K, RandomState>,
     outlets: Vec<Outlet<K>>,
     tells_frames: bool,
 ) -> Result<Vec<OutletPen<W, WritingGate<'a, K, R>>>, AllocError> {
     let mut pens = Vec::with_capacity(alloc, outlets.len())?;
     for outlet in outlets {
         let teller = teller_of(rt, tells_frames, &outlet.recipient());
-        let gate = TellingGate::new(alloc, OutletGate::new(&desk.shared, outlet), teller);
+        let gate = TellingGate::new(alloc, OutletGate::new(shared, outlet), teller);
         pens.push(OutletPen::new(gate))?;
     }
     Ok(pens)

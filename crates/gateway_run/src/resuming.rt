@@ -2,10 +2,13 @@
 
 ghost use Rattle.std.specs.Prelude.{◌≡◌, length};
 
+use crate::day_journal::DayJournal;
+use crate::fault::RunFault;
+use crate::sync_timer::SyncTimer;
 use desk_gates::{DayLog, DeskName, Inlet, Outlet, Shared, ToldOutlets};
 use gate_events::Event;
 use gate_serving::Clock as _;
-use gateway_day::{DayJournal, RunFault};
+use host_log::LaterSync;
 use link_sockets::SystemClock;
 use open_links::open_links;
 use std::alloc::Global;
@@ -15,6 +18,14 @@ use std::time::{Clock, Duration};
 
 /// So many lists lie at an outlet at most.
 const MOST_LISTS: u32 = 4_096;
+
+/// What has a journal synced later, taken out of it.
+pub(crate) fn take_syncs(journal: &mut Option<DayJournal>) -> Option<SyncTimer<LaterSync>> {
+    match journal {
+        Some(journal) => journal.syncs.take(),
+        None => None,
+    }
+}
 
 /// Steps the events of a journal's day again by a desk that was opened just now, compares what comes of them, has the
 /// desk write behind them from then on, and steps that each link that was up is gone. What the day tells is told
@@ -31,10 +42,9 @@ pub(crate) fn go_on<K: DeskName, R: Wait + Clock>(
 ) -> Result<(), RunFault>
     ensures { length inlets.new.items ≡ length inlets.old.items }
 {
-    let Some(journal) = journal else {
+    let Some(DayJournal { file, day, .. }) = journal else {
         return Ok(());
     };
-    let (file, day) = journal.into_parts();
     let events = day.events(alloc)?;
     let links = open_links(alloc, events.as_slice())?;
     for event in events {

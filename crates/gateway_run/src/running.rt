@@ -2,20 +2,27 @@
 
 ghost use Rattle.std.specs.Prelude.{◌≡◌, ◌<◌, length, IfOk};
 ghost use Rattle.gate_law.specs.Holds.{Holds};
-ghost use Rattle.gateway_day.specs.Kept.{turns};
+ghost use Rattle.audit_lines.specs.gate_audit.gate_journal.Kept.{turns};
 ghost use Rattle.desk_gates.specs.desk.Settling.{AreSettled};
 
-use crate::left::Left;
-use crate::lines::Count;
-use crate::plan::RunPlan;
-use crate::run_desk::RunDesk;
-use crate::serving::serve_opened;
-use desk_gates::{Closed, DeskName, Finished, Parts, Prompt, Shared, open_desk};
-use gate_serving::{Closer, Opener};
-use gateway_day::{Day, DayJournal, RunFault, Settings, ports_of_clients};
-use gateway_links::LinkStates;
+use crate::counted::{ClientCounts, CountedLinks, LinkStates};
+use crate::day::Day;
+use crate::day_journal::DayJournal;
+use crate::ends::{Ends, LinkRules, RunPlan, ends_of};
+use crate::fault::RunFault;
+use crate::lines::{Count, Left, pens_of, ticks_of};
+use crate::order_watch::ports_of_clients;
+use crate::port_faults::PortLinks;
+use crate::resuming::{go_on, take_syncs};
+use crate::sync_timer::SyncTimer;
+use audit_lines::Settings;
+use desk_gates::{
+    Closed, DeskName, Finished, Inlet, OutletEnd, OutletPen, Parts, Prompt, Shared, open_desk,
+};
+use gate_serving::{Closer, Opener, serve};
+use host_log::LaterSync;
 use status_board::StatusBoard;
-use std::alloc::Global;
+use std::alloc::{AllocError, Global};
 use std::hash::RandomState;
 use std::io::Read;
 use std::marker::Brand;
@@ -116,30 +123,31 @@ where
 {
     let clients = plan.clients.len().min(usize::from(count.clients)) as u32;
     let states = LinkStates::of(alloc, clients, plan.ports.len())?;
-    let (shared, inlets, outlets) = open_desk::<K, RandomState>(alloc, parts)?;
-    let desk = RunDesk { shared };
-    let served = serve_opened(
-        rt, alloc, count, ports_of, &desk, &states, inlets, outlets, journal, plan, is_over, board,
-    );
-    match served {
-        Ok(left) => end_desk(rt, alloc, desk, left),
-        Err(fault) => Err(fault),
-    }
-}
-
-/// Closes a desk that was served, and gives its day.
-fn end_desk<K: DeskName, R: Clock>(
-    rt: &R,
-    alloc: Global,
-    desk: RunDesk<K>,
-    left: Left<K>,
-) -> Result<Day, RunFault> {
-    let (finished, fault) = left.into_parts();
-    let closed = close_desk(rt, alloc, desk.into_shared(), finished)?;
+    let (shared, mut inlets, mut outlets) = open_desk::<K, RandomState>(alloc, parts)?;
+    let mut journal = journal;
+    let syncs = take_syncs(&mut journal);
+    go_on(rt, alloc, &shared, &mut inlets, &mut outlets, journal)?;
+    let pens = pens_of::<A::Writer, K, R>(rt, alloc, &shared, outlets, plan.rules.tells_frames)?;
+    let mut left = serve_desk(
+        rt,
+        alloc,
+        count,
+        ports_of,
+        &shared,
+        &states,
+        inlets,
+        pens.as_slice(),
+        plan,
+        is_over,
+        board,
+        syncs,
+    )?;
+    left.end_outlets(pens)?;
+    let closed = close_desk(rt, alloc, shared, left.finished)?;
     Ok(Day::new(
         closed.history,
         closed.settings,
-        fault,
+        left.fault,
         closed.lost.is_some(),
     ))
 }
@@ -168,4 +176,102 @@ fn close_desk<K: DeskName, R: Clock>(
         thread::sleep(rt, between_closes());
     }
     Err(RunFault::NoMemory)
+}
+
+/// Serves the ends of a desk, the last inlet being the clock's, until the clients' links have been served, and ends
+/// them. Time passes in the calling thread, which has the journal synced where that is left for later.
+fn serve_desk<'p, 'a, K, R, A, C, G>(
+    rt: &'a R,
+    alloc: Global,
+    count: Count,
+    ports_of: &'a [u16],
+    shared: &'a Shared<K, RandomState>,
+    states: &'a LinkStates,
+    inlets: Vec<Inlet<K>>,
+    pens: &'p [OutletPen<A::Writer, G>],
+    plan: RunPlan<A, C>,
+    is_over: &'a AtomicBool,
+    board: &'a StatusBoard,
+    syncs: Option<SyncTimer<LaterSync>>,
+) -> Result<Left<K>, RunFault>
+where
+    K: DeskName + Send + Sync,
+    R: Threads + Wait + Sync + Clock + Eprint,
+    A: Opener + Send + Drop,
+    A::Reader: Read + Send + Drop,
+    A::Writer: Prompt + Send + Drop,
+    A::Closer: Closer + Send + Drop,
+    C: Opener<Reader = A::Reader, Writer = A::Writer, Closer = A::Closer> + Send + Drop,
+    G: OutletEnd + Send + Drop,
+    requires clock { 0 < length inlets.items }
+{
+    let mut left = Left::with_room(alloc, inlets.len(), pens.len())?;
+    let mut inlets = inlets;
+    let Some(clock) = inlets.pop() else {
+        unreachable!()
+    };
+    let RunPlan {
+        clients,
+        ports,
+        rules,
+    } = plan;
+    let counts = &states.clients;
+    let clients = counted(alloc, clients, counts, is_over)?;
+    let ports = left_alone(rt, alloc, shared, ports, states, rules, is_over)?;
+    let ends = ends_of(rt, alloc, shared, inlets, pens, clients, ports, rules)?;
+    let Ends { lines, .. } = ends;
+    let ticks = ticks_of(
+        rt, alloc, shared, count, ports_of, counts, is_over, board, clock, pens, syncs,
+    );
+    match serve(rt, alloc, lines, ticks) {
+        Ok((lines, ticks)) => {
+            left.end_lines(lines)?;
+            left.end_ticks(ticks)?;
+        }
+        Err((fault, _, _)) => return Err(RunFault::from(fault)),
+    }
+    Ok(left)
+}
+
+/// The links of clients, counted.
+fn counted<'a, A: Drop>(
+    alloc: Global,
+    openers: Vec<A>,
+    counts: &'a ClientCounts,
+    is_over: &'a AtomicBool,
+) -> Result<Vec<CountedLinks<'a, A>>, AllocError> {
+    let mut links = Vec::with_capacity(alloc, openers.len())?;
+    for opener in openers {
+        links.push(CountedLinks::new(opener, counts, is_over))?;
+    }
+    Ok(links)
+}
+
+/// The links of ports, which are left alone where these rules say so.
+fn left_alone<'a, C: Drop, K: DeskName, R: Wait + Clock + Eprint>(
+    rt: &'a R,
+    alloc: Global,
+    shared: &'a Shared<K, RandomState>,
+    openers: Vec<C>,
+    states: &'a LinkStates,
+    rules: LinkRules,
+    is_over: &'a AtomicBool,
+) -> Result<Vec<PortLinks<'a, C, K, R>>, AllocError> {
+    let mut links = Vec::with_capacity(alloc, openers.len())?;
+    for opener in openers {
+        let letter = states.letters.get(links.len());
+        let number = u16::try_from(links.len().saturating_add(1)).unwrap_or(u16::MAX);
+        let leaves_alone = rules.leaves_alone;
+        links.push(PortLinks::new(
+            rt,
+            alloc,
+            shared,
+            number,
+            opener,
+            leaves_alone,
+            letter,
+            is_over,
+        ))?;
+    }
+    Ok(links)
 }

@@ -1,9 +1,10 @@
 //! What is told of a client's link by its two gates, so that whoever runs the gateway sees why nothing goes through:
 //! frames that refuse a message, ask for messages again or end a session; and bytes that are no frame.
 
+use crate::telling::Teller;
 use desk_gates::{Gate, OutletEnd};
+use fix_framing::{SOH, front_body};
 use gate_events::{Event, LinkOut, Recipient};
-use gateway_log::{Teller, tell_frames};
 use short_list::ShortList;
 use std::alloc::{AllocError, Global};
 use std::sync::Wait;
@@ -11,21 +12,11 @@ use std::time::Clock;
 
 /// A gate that tells on standard error of what its link skips, and of each Reject, ResendRequest and Logout that its
 /// link is sent; or that tells nothing.
+#[derive(Drop)]
 pub(crate) struct TellingGate<'a, G, R> {
     gate: G,
     alloc: Global,
     teller: Option<Teller<'a, R>>,
-}
-
-// Not derived: then each way out drops it in one call (docs/DECISIONS.md, "Drops").
-impl<'a, G: Drop, R> Drop for TellingGate<'a, G, R> {
-    fn drop(self) {
-        let TellingGate {
-            gate: _,
-            alloc: _,
-            teller: _,
-        } = self;
-    }
 }
 
 impl<'a, G, R> TellingGate<'a, G, R> {
@@ -50,12 +41,7 @@ impl<'a, G, R> TellingGate<'a, G, R> {
     pub(crate) fn into_gate(self) -> G
         ensures { result ≡ self.entry.gate }
     {
-        let TellingGate {
-            gate,
-            alloc: _,
-            teller: _,
-        } = self;
-        gate
+        self.gate
     }
 }
 
@@ -105,4 +91,47 @@ impl<'a, G: OutletEnd, R: Clock + Eprint> OutletEnd for TellingGate<'a, G, R> {
     fn recipient(&self) -> Recipient {
         self.gate.recipient()
     }
+}
+
+/// Tells of the frames in this text that are told of.
+fn tell_frames<R: Clock + Eprint>(teller: &Teller<'_, R>, alloc: Global, text: &[u8]) {
+    let mut rest = text;
+    for _ in 0..text.len() {
+        let Some((body, behind)) = front_body(rest) else {
+            return;
+        };
+        if is_told(body) {
+            tell_message(teller, alloc, body);
+        }
+        rest = behind;
+    }
+}
+
+/// Whether a frame of this body is told of: a ResendRequest, a Reject or a Logout.
+fn is_told(body: &[u8]) -> bool {
+    matches!(body, [b'3', b'5', b'=', b'2' | b'3' | b'5', SOH, ..])
+}
+
+/// Tells of a frame by its body: `sent`, and the message from MsgType (35) to before its CheckSum (10), with `|` for
+/// SOH and `.` for each other byte that isn't seen. That one was sent, where memory runs out.
+fn tell_message<R: Clock + Eprint>(teller: &Teller<'_, R>, alloc: Global, body: &[u8]) {
+    match shown(alloc, body) {
+        Ok(text) => teller.tell(text.as_str()),
+        Err(_) => teller.tell("sent a Reject, a ResendRequest or a Logout"),
+    }
+}
+
+/// A message as it is told, without the SOH behind its last field.
+fn shown(alloc: Global, body: &[u8]) -> Result<String, AllocError> {
+    let mut text = String::with_capacity(alloc, body.len().saturating_add(5))?;
+    text.push_str("sent ")?;
+    let (message, _) = body.split_at(body.len().saturating_sub(1));
+    for byte in message {
+        text.push(match *byte {
+            SOH => '|',
+            32..=126 => char::from(*byte),
+            _ => '.',
+        })?;
+    }
+    Ok(text)
 }

@@ -8,8 +8,8 @@ ghost use Rattle.gateway_run.specs.gate_law.Settings.{client_name};
 ghost use Rattle.gateway_serve.specs.Lines as shown;
 
 use crate::standing::{Standing, is_open, is_unanswered, standing_of};
-use audit_lines::{OrderPair, ReadingFault, Settings, StreamFault, audit};
-use gateway_run::Day;
+use audit_lines::StreamFault;
+use gateway_run::{Day, OrderPair, ReadingFault, Settings, audit};
 use itoa::Buffer;
 use std::alloc::{AllocError, Global};
 use std::io::Write;

@@ -5,7 +5,7 @@ ghost use Rattle.std.specs.Prelude.{◌≡◌, true};
 use crate::day_flags::DayFlags;
 use crate::pacing::{between_lines, pause_after, soon};
 use gate_serving::{LinkEnd, LinkFault, Opened, Opener};
-use gateway_log::Teller;
+use gateway_run::Teller;
 use link_sockets::{SocketCloser, SocketReader, SocketWriter, connected, link_of};
 use std::fmt::{Display, Formatter};
 use std::io::ErrorKind;

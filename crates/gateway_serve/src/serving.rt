@@ -7,8 +7,9 @@ use crate::naming::names_of;
 use crate::served_port::ServedPort;
 use crate::waiting_room::WaitingRoom;
 use gateway_control::{DayControl, Endpoint, serve_endpoint};
-use gateway_log::{Teller, Whose};
-use gateway_run::{Day, DayJournal, LinkRules, RunFault, RunPlan, SettingsFile, run_shown};
+use gateway_run::{
+    Day, DayJournal, LinkRules, RunFault, RunPlan, SettingsFile, Teller, Whose, run_shown,
+};
 use operator_settings::{AddressRange, OperatorSettings};
 use std::alloc::{AllocError, Global};
 use std::hash::RandomState;

@@ -3,7 +3,7 @@
 ghost use Rattle.std.specs.Prelude.{◌≡◌};
 ghost use Rattle.gateway_serve.specs.Standing as spec;
 
-use audit_lines::OrderPair;
+use gateway_run::OrderPair;
 
 /// How an order stands at the end of a day.
 #[derive(Clone, Copy, PartialEq, Eq)]

@@ -4,7 +4,7 @@ ghost use Rattle.std.specs.Prelude.{◌≡◌, true};
 
 use crate::day_flags::DayFlags;
 use gate_serving::{LinkEnd, LinkFault, Opened, Opener};
-use gateway_log::Teller;
+use gateway_run::Teller;
 use link_sockets::{SocketCloser, SocketReader, SocketWriter, link_of};
 use operator_settings::{AddressRange, admit};
 use std::alloc::Global;

@@ -1,2 +1,0 @@
-pub mod Sent
-mod Stopped

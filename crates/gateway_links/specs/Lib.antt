@@ -1,3 +1,0 @@
-pub mod Openers
-pub mod Resends
-pub mod Standstills

@@ -1,0 +1,306 @@
+//! What is looked at before it goes to the desk: ticks that aren't due, or come too soon behind a standstill, are left
+//! out, a client that asks for too much again is given up, and it is told why a client's Logon isn't answered, and what
+//! a market says of a login.
+
+use crate::telling::Teller;
+use desk_gates::{DeskName, Gate, Shared};
+use fix_fields::Fields;
+use fix_session::LogonFault;
+use gate_events::{ClientNumber, Event, LinkOut};
+use link_limits::{Resends, Standstill, TooMuch, asked_for, range_of};
+use short_list::ShortList;
+use soup_packets::Packet;
+use status_board::Status;
+use std::alloc::{AllocError, Global};
+use std::fmt;
+use std::fmt::{Display, Formatter};
+use std::hash::RandomState;
+use std::sync::Wait;
+use std::sync::atomic::{AtomicU8, Ordering};
+use std::time::Clock;
+
+/// A gate through which a tick goes only where a session's table has a row for it just now (`Core::is_due`). Any other
+/// tick is given back: it would give its link nothing, and would stand in the day's history for ever. So is one that
+/// comes too soon behind a standstill of the process (`Standstill`): silence is judged behind what was received.
+///
+/// A ResendRequest by which a client asks for too much again within an hour (`Resends`) is given back, and then its
+/// link is given up (`gives_up`): each answer would lie in memory, and stand in the day's history.
+///
+/// Where somebody tells, it is told why a link's first frame is no Logon that is answered (`Core::logon_fault`), and
+/// with which letter a market rejects a login.
+#[derive(Drop)]
+pub(crate) struct RunGate<'a, G, K: DeskName, R> {
+    gate: G,
+    rt: &'a R,
+    alloc: Global,
+    shared: &'a Shared<K, RandomState>,
+    teller: Option<Teller<'a, R>>,
+    /// No frame of the link came yet.
+    is_first: bool,
+    /// Where the letter of a login that a market rejects is kept.
+    letter: Option<&'a AtomicU8>,
+    standstill: Standstill,
+    resends: Resends,
+    /// Its client asked for too much again on this link.
+    is_given_up: bool,
+}
+
+impl<'a, G, K: DeskName, R> RunGate<'a, G, K, R> {
+    ghost use Rattle.std.specs.Prelude.{◌≡◌};
+
+    /// This gate to the desk, with who tells, where somebody does, and where the letter of a login that a market
+    /// rejects is kept. Takes no memory.
+    pub(crate) fn new(
+        rt: &'a R,
+        alloc: Global,
+        shared: &'a Shared<K, RandomState>,
+        gate: G,
+        teller: Option<Teller<'a, R>>,
+        letter: Option<&'a AtomicU8>,
+    ) -> RunGate<'a, G, K, R>
+        ensures { result.gate ≡ gate }
+    {
+        RunGate {
+            gate,
+            rt,
+            alloc,
+            shared,
+            teller,
+            is_first: true,
+            letter,
+            standstill: Standstill::new(),
+            resends: Resends::new(),
+            is_given_up: false,
+        }
+    }
+
+    /// The gate. Takes no memory.
+    pub(crate) fn into_gate(self) -> G
+        ensures { result ≡ self.entry.gate }
+    {
+        self.gate
+    }
+}
+
+impl<'a, G, K: DeskName, R: Wait + Clock + Eprint> RunGate<'a, G, K, R> {
+    ghost use Rattle.std.specs.Prelude.{◌≡◌};
+
+    /// Whether an event is a tick that comes too soon behind a standstill, or gives nothing.
+    fn is_left_out(&mut self, event: &Event) -> bool
+        ensures { self.new.gate ≡ self.old.gate }
+    {
+        let at = match event {
+            Event::ClientTick { at, .. } | Event::PortTick { at, .. } => *at,
+            _ => return false,
+        };
+        self.standstill = self.standstill.after(at);
+        !self.standstill.lets_through() || !self.shared.is_due(self.rt, self.alloc, event)
+    }
+
+    /// What its client has asked for again with this event; `None` where that is too much: then the link is given up,
+    /// which is told.
+    fn resends_with(&mut self, event: &Event) -> Option<Resends>
+        ensures { self.new.gate ≡ self.old.gate }
+    {
+        let resends = self.resends;
+        let (client, frame, at) = match event {
+            Event::ClientMessage {
+                client,
+                frame,
+                at,
+                ..
+            } => (*client, frame.fields(), *at),
+            _ => return Some(resends),
+        };
+        let Some((begin, end)) = range_of(frame) else {
+            return Some(resends);
+        };
+        let Some(highest) = self.highest_sent(client) else {
+            return Some(resends);
+        };
+        let resends = resends.with(asked_for(begin, end, highest), at);
+        if !resends.is_too_much(highest) {
+            return Some(resends);
+        }
+        let messages = resends.messages;
+        self.give_up(&TooMuch { messages, highest });
+        None
+    }
+
+    /// The highest MsgSeqNum (34) that a client was sent; `None` where memory is refused.
+    fn highest_sent(&self, client: ClientNumber) -> Option<u64> {
+        match self.shared.status(self.rt, self.alloc) {
+            Ok(status) => Some(highest_of(&status, client)),
+            Err(_) => None,
+        }
+    }
+
+    /// Gives its link up, and tells why.
+    fn give_up(&mut self, too_much: &TooMuch)
+        ensures { self.new.gate ≡ self.old.gate }
+    {
+        self.is_given_up = true;
+        if let Some(teller) = &self.teller {
+            teller.tell_of(too_much);
+        }
+    }
+
+    /// Tells of an event, where there is something to tell.
+    fn look(&mut self, event: &Event)
+        ensures { self.new.gate ≡ self.old.gate }
+    {
+        match event {
+            Event::ClientUp { .. } => {
+                self.is_first = true;
+                self.is_given_up = false;
+            }
+            Event::ClientMessage { client, frame, .. } => {
+                self.look_at_frame(*client, frame.fields());
+            }
+            Event::PortPacket { packet, .. } => self.look_at_packet(packet),
+            _ => {}
+        }
+    }
+
+    /// Tells why a frame isn't answered, if it is the first of its link.
+    fn look_at_frame(&mut self, client: ClientNumber, frame: &Fields)
+        ensures { self.new.gate ≡ self.old.gate }
+    {
+        if !self.is_first {
+            return;
+        }
+        self.is_first = false;
+        if let Some(teller) = &self.teller {
+            if let Some(fault) = self.shared.logon_fault(self.rt, client, frame) {
+                teller.tell_of(&RefusedLogon { fault, frame });
+            }
+        }
+    }
+
+    /// Keeps the letter of a Login Rejected, and tells of it.
+    fn look_at_packet(&self, packet: &Packet) {
+        if packet.kind != b'J' {
+            return;
+        }
+        if let (Some(kept), [letter, ..]) = (self.letter, packet.payload.as_slice()) {
+            kept.store(*letter, Ordering::SeqCst);
+        }
+        if let Some(teller) = &self.teller {
+            teller.tell_of(&RejectedLogin(packet));
+        }
+    }
+}
+
+impl<'a, G: Gate, K: DeskName, R: Wait + Clock + Eprint> Gate for RunGate<'a, G, K, R> {
+    ghost was_put = { λ t. G.was_put t.gate };
+
+    ghost was_taken = { λ t. G.was_taken t.gate };
+
+    ghost gave_back = { λ _. Unit {0} };
+
+    /// Puts an event; a tick only where it is due, once the desk could be had, and none by which a client asks for too
+    /// much again.
+    fn put(&mut self, event: Event) -> Result<(), Event> {
+        if self.is_left_out(&event) {
+            return Err(event);
+        }
+        let Some(resends) = self.resends_with(&event) else {
+            return Err(event);
+        };
+        self.look(&event);
+        self.gate.put(event)?;
+        self.resends = resends;
+        Ok(())
+    }
+
+    fn take(&mut self) -> Option<ShortList<LinkOut>> {
+        self.gate.take()
+    }
+
+    fn turn<W: Wait>(&mut self, rt: &W, alloc: Global) -> Result<u32, AllocError> {
+        self.gate.turn(rt, alloc)
+    }
+
+    fn wake_writer(&self) {
+        self.gate.wake_writer();
+    }
+
+    fn gives_up(&self) -> bool {
+        self.is_given_up
+    }
+}
+
+/// The highest MsgSeqNum (34) that a client was sent.
+fn highest_of(status: &Status, client: ClientNumber) -> u64 {
+    match status
+        .clients()
+        .get(usize::from(client.number()).saturating_sub(1))
+    {
+        Some(row) => row.next_out.saturating_sub(1),
+        None => 0,
+    }
+}
+
+/// Why a Logon is refused: the field, with what it has, and what it is to have.
+#[derive(Drop)]
+struct RefusedLogon<'f> {
+    fault: LogonFault,
+    frame: &'f Fields,
+}
+
+impl<'f> Display for RefusedLogon<'f> {
+    fn fmt<W: fmt::Write>(&self, f: &mut Formatter<W>) -> fmt::Result {
+        let (tag, why) = reason_of(self.fault);
+        f.write_str("Logon refused: ")?;
+        if tag == 0 {
+            return f.write_str(why);
+        }
+        write!(f, "{tag}=")?;
+        if let Some(value) = self.frame.first(tag) {
+            write_shown(f, value)?;
+        }
+        write!(f, " {why}")
+    }
+}
+
+/// The tag that a fault is about, 0 of none, and what is wrong with it.
+fn reason_of(fault: LogonFault) -> (u32, &'static str) {
+    match fault {
+        LogonFault::Type => (35, "is no Logon"),
+        LogonFault::Sender => (49, "isn't this client's name"),
+        LogonFault::Target => (56, "isn't the gateway's name"),
+        LogonFault::Number => (34, "is no number from 1"),
+        LogonFault::Encryption => (98, "isn't 0"),
+        LogonFault::Interval => (108, "isn't 0 to 3600"),
+        LogonFault::ResetFlag => (141, "is neither Y nor N"),
+        LogonFault::Malformed => (0, "a tag stands twice, or has no value"),
+        LogonFault::ResetNumber => (34, "isn't 1, with 141=Y"),
+    }
+}
+
+/// That a login is rejected, with the market's letter.
+#[derive(Drop)]
+struct RejectedLogin<'p>(&'p Packet);
+
+impl<'p> Display for RejectedLogin<'p> {
+    fn fmt<W: fmt::Write>(&self, f: &mut Formatter<W>) -> fmt::Result {
+        f.write_str("login rejected: ")?;
+        write_shown(f, self.0.payload.as_slice())?;
+        f.write_str(match self.0.payload.as_slice() {
+            [b'A'] => ", user or password",
+            [b'S'] => ", no such session",
+            _ => "",
+        })
+    }
+}
+
+/// Writes bytes, with a dot for each that isn't printable ASCII.
+fn write_shown<W: fmt::Write>(f: &mut Formatter<W>, bytes: &[u8]) -> fmt::Result {
+    for byte in bytes {
+        f.write_char(match *byte {
+            32..=126 => char::from(*byte),
+            _ => '.',
+        })?;
+    }
+    Ok(())
+}
