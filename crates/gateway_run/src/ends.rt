@@ -158,31 +158,25 @@ where
     let mut connecting = ports.into_iter();
     let mut ends = Ends::new(alloc, rules);
     for (inlet, pen) in inlets.into_iter().zip(pens) {
-        if let Some((peer, opener)) = next_of(inlet.source(), &mut accepting, &mut connecting) {
-            ends.add(rt, desk, peer, opener, inlet, pens, pen)?;
+        match inlet.source() {
+            Source::Client(client) => {
+                if let Some(links) = accepting.next() {
+                    let opener = RunOpener::Client(links);
+                    let peer = Recipient::Client(client);
+                    ends.add(rt, desk, peer, opener, inlet, pens, pen)?;
+                }
+            }
+            Source::Port(port) => {
+                if let Some(links) = connecting.next() {
+                    let opener = RunOpener::Port(links);
+                    let peer = Recipient::Port(port);
+                    ends.add(rt, desk, peer, opener, inlet, pens, pen)?;
+                }
+            }
+            Source::Clock => {}
         }
     }
     Ok(ends)
-}
-
-/// The next links of clients or of ports, for the inlet of this source; `None` where there are none, and for the
-/// clock's.
-fn next_of<A, C>(
-    source: Source,
-    clients: &mut impl Iterator<Item = A>,
-    ports: &mut impl Iterator<Item = C>,
-) -> Option<(Recipient, RunOpener<A, C>)> {
-    match source {
-        Source::Client(client) => {
-            let links = clients.next()?;
-            Some((Recipient::Client(client), RunOpener::Client(links)))
-        }
-        Source::Port(port) => {
-            let links = ports.next()?;
-            Some((Recipient::Port(port), RunOpener::Port(links)))
-        }
-        Source::Clock => None,
-    }
 }
 
 /// The lines of a gateway that serves this plan, over the inlets and the outlets' pens of its desk.

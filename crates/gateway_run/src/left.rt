@@ -2,24 +2,10 @@
 
 use crate::lines::{RunLine, RunTicks, WritingGate};
 use desk_gates::{DeskName, Finished, InletGate, OutletEnd, OutletPen, Prompt};
-use gate_serving::{Line, LinkFault, ServeFault, Ticks};
-use gateway_day::RunFault;
+use gate_serving::{Line, LinkFault, Ticks};
 use std::alloc::{AllocError, Global};
 use std::hash::RandomState;
 use std::time::Clock;
-
-/// Lines and ticks that were served.
-type Served<'p, 'a, W, G, A, C, K, R> = (
-    Vec<RunLine<'p, 'a, W, G, A, C, K, R>>,
-    Option<RunTicks<'p, 'a, W, G, K, R>>,
-);
-
-/// The same, with why they weren't served to their end.
-type NotServed<'p, 'a, W, G, A, C, K, R> = (
-    ServeFault,
-    Vec<RunLine<'p, 'a, W, G, A, C, K, R>>,
-    Option<RunTicks<'p, 'a, W, G, K, R>>,
-);
 
 /// What is left of lines that were served.
 pub(crate) struct Left<K: DeskName> {
@@ -63,24 +49,8 @@ impl<K: DeskName> Left<K> {
         (finished, fault)
     }
 
-    /// With the ends of lines and ticks that were served; or why they weren't served to their end.
-    pub(crate) fn of_served<'p, 'a, W: Prompt + Drop, G: OutletEnd + Drop, A: Drop, C: Drop, R>(
-        self,
-        served: Result<Served<'p, 'a, W, G, A, C, K, R>, NotServed<'p, 'a, W, G, A, C, K, R>>,
-    ) -> Result<Left<K>, RunFault> {
-        match served {
-            Ok((lines, ticks)) => {
-                let mut left = self;
-                left.end_ticks(ticks)?;
-                left.end_lines(lines)?;
-                Ok(left)
-            }
-            Err((fault, _, _)) => Err(RunFault::from(fault)),
-        }
-    }
-
     /// Ends the inlets of lines, and keeps what was put, and the first fault.
-    fn end_lines<'p, 'a, W: Prompt + Drop, G: OutletEnd + Drop, A: Drop, C: Drop, R>(
+    pub(crate) fn end_lines<'p, 'a, W: Prompt + Drop, G: OutletEnd + Drop, A: Drop, C: Drop, R>(
         &mut self,
         lines: Vec<RunLine<'p, 'a, W, G, A, C, K, R>>,
     ) -> Result<(), AllocError> {
@@ -101,7 +71,7 @@ impl<K: DeskName> Left<K> {
     }
 
     /// Ends the inlet of ticks, and keeps what was put.
-    fn end_ticks<'p, 'a, W: Prompt + Drop, G: OutletEnd + Drop, R>(
+    pub(crate) fn end_ticks<'p, 'a, W: Prompt + Drop, G: OutletEnd + Drop, R>(
         &mut self,
         ticks: Option<RunTicks<'p, 'a, W, G, K, R>>,
     ) -> Result<(), AllocError> {

@@ -135,7 +135,7 @@ where
     G: OutletEnd + Send + Drop,
     requires clock { 0 < length inlets.items }
 {
-    let left = Left::with_room(alloc, inlets.len(), pens.len())?;
+    let mut left = Left::with_room(alloc, inlets.len(), pens.len())?;
     let mut inlets = inlets;
     let Some(clock) = inlets.pop() else {
         unreachable!()
@@ -145,5 +145,12 @@ where
     let ticks = ticks_of(
         rt, alloc, desk, count, ports_of, counts, is_over, board, clock, pens, syncs,
     );
-    left.of_served(serve(rt, alloc, lines, ticks))
+    match serve(rt, alloc, lines, ticks) {
+        Ok((lines, ticks)) => {
+            left.end_lines(lines)?;
+            left.end_ticks(ticks)?;
+            Ok(left)
+        }
+        Err((fault, _, _)) => Err(RunFault::from(fault)),
+    }
 }
