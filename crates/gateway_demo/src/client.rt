@@ -78,13 +78,7 @@ impl<'a, R: Clock, S: Read + Write + Drop> Client<'a, R, S> {
     /// Enters an order of this ClOrdID: so many shares at this limit.
     pub(crate) fn enter(&mut self, id: &str, shares: u32, limit: &str) -> Result<(), DemoFault> {
         let mut body = Vec::new(self.alloc);
-        write!(
-            body,
-            "11={id}\x0121=1\x0138={shares}\x0140=2\x0144={limit}\x01"
-        )?;
-        body.extend_from_slice(b"54=1\x0155=INTC\x0159=0\x0160=")?;
-        body.extend_from_slice(&self.now())?;
-        body.extend_from_slice(b"\x01")?;
+        push_order(&mut body, id, shares, limit, &self.now())?;
         self.say("D", body.as_slice())
     }
 
@@ -109,6 +103,15 @@ impl<'a, R: Clock, S: Read + Write + Drop> Client<'a, R, S> {
     /// Sends a message of this type with these fields behind its header.
     fn say(&mut self, kind: &str, body: &[u8]) -> Result<(), DemoFault> {
         let mut text = Vec::new(self.alloc);
+        self.push_text(&mut text, kind, body)?;
+        self.next = self.next.saturating_add(1);
+        let message = frame_of_text(self.alloc, text.as_slice())?;
+        self.stream.write_all(message.as_slice())?;
+        Ok(())
+    }
+
+    /// Adds the text of the next message, with its header.
+    fn push_text(&self, text: &mut Vec<u8>, kind: &str, body: &[u8]) -> Result<(), DemoFault> {
         let Client { name, next, .. } = self;
         write!(
             text,
@@ -117,9 +120,6 @@ impl<'a, R: Clock, S: Read + Write + Drop> Client<'a, R, S> {
         text.extend_from_slice(&self.now())?;
         text.extend_from_slice(b"\x01")?;
         text.extend_from_slice(body)?;
-        self.next = self.next.saturating_add(1);
-        let message = frame_of_text(self.alloc, text.as_slice())?;
-        self.stream.write_all(message.as_slice())?;
         Ok(())
     }
 
@@ -153,4 +153,22 @@ impl<'a, R: Clock, S: Read + Write + Drop> Client<'a, R, S> {
         }
         Ok(found)
     }
+}
+
+/// Adds the fields of an order that is entered at this moment.
+fn push_order(
+    body: &mut Vec<u8>,
+    id: &str,
+    shares: u32,
+    limit: &str,
+    at: &[u8; 21],
+) -> Result<(), DemoFault> {
+    write!(
+        body,
+        "11={id}\x0121=1\x0138={shares}\x0140=2\x0144={limit}\x01"
+    )?;
+    body.extend_from_slice(b"54=1\x0155=INTC\x0159=0\x0160=")?;
+    body.extend_from_slice(at)?;
+    body.extend_from_slice(b"\x01")?;
+    Ok(())
 }

@@ -68,18 +68,20 @@ impl Market {
     /// Answers a packet, trades the order that it enters, and tells how many it enters.
     fn take<W: Write>(&mut self, packet: Packet, to: &mut W) -> Result<u32, DemoFault> {
         let trading = trading_of(&packet);
-        let said = self
-            .sim
-            .step(self.alloc, SimEvent::Packet(packet, self.answer))?;
-        say(self.alloc, said.as_slice(), to)?;
-        let Some(trading) = trading else {
-            return Ok(0);
-        };
-        let said = self
-            .sim
-            .step(self.alloc, SimEvent::Act(Choice::Execute(trading)))?;
-        say(self.alloc, said.as_slice(), to)?;
-        Ok(1)
+        self.step(SimEvent::Packet(packet, self.answer), to)?;
+        match trading {
+            Some(trading) => {
+                self.step(SimEvent::Act(Choice::Execute(trading)), to)?;
+                Ok(1)
+            }
+            None => Ok(0),
+        }
+    }
+
+    /// Steps the market, and writes what it says.
+    fn step<W: Write>(&mut self, event: SimEvent, to: &mut W) -> Result<(), DemoFault> {
+        let said = self.sim.step(self.alloc, event)?;
+        say(self.alloc, said.as_slice(), to)
     }
 }
 

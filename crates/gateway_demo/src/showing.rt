@@ -17,7 +17,7 @@ use std::net::{Net, TcpListener, TcpStream};
 use std::sync::Wait;
 use std::sync::atomic::{AtomicBool, Ordering};
 use std::thread;
-use std::thread::Threads;
+use std::thread::{JoinHandle, Threads};
 use std::time::{Clock, Duration};
 
 /// What each client buys.
@@ -138,21 +138,41 @@ where
     let settings = demo_settings(alloc)?;
     let (first, second) = (first_address.as_str(), second_address.as_str());
     thread::scope(thread::scope_env(), rt, |scope| {
-        let market = scope.spawn(move || serve_market(rt, alloc, market, answer, is_past));
-        let one = scope.spawn(move || trade(rt, alloc, "C1", first, patience, is_over));
-        let two = scope.spawn(move || trade(rt, alloc, "C2", second, patience, is_over));
-        if market.is_err() || one.is_err() || two.is_err() {
+        let market = scope
+            .spawn(move || serve_market(rt, alloc, market, answer, is_past))
+            .ok();
+        let one = scope
+            .spawn(move || trade(rt, alloc, "C1", first, patience, is_over))
+            .ok();
+        let two = scope
+            .spawn(move || trade(rt, alloc, "C2", second, patience, is_over))
+            .ok();
+        if market.is_none() || one.is_none() || two.is_none() {
             is_over.store(true, Ordering::SeqCst);
         }
         let ran = run(rt, alloc, hasher, settings, plan, is_over);
         is_over.store(true, Ordering::SeqCst);
         is_past.store(true, Ordering::SeqCst);
-        let (Ok(market), Ok(one), Ok(two)) = (market, one, two) else {
-            return Err(DemoFault::NoThread);
-        };
-        let (market, one, two) = (market.join(rt), one.join(rt), two.join(rt));
-        day_of(ran, market, one.and(two))
+        ended(rt, ran, market, one, two)
     })
+}
+
+/// A market or a client, in a thread of its own.
+type Trader = JoinHandle<Result<(), DemoFault>>;
+
+/// The day of a gateway that has ended, once its market and its clients have; `NoThread` where one of them had none.
+fn ended<R: Threads + Wait>(
+    rt: &R,
+    ran: Result<Day, RunFault>,
+    market: Option<Trader>,
+    one: Option<Trader>,
+    two: Option<Trader>,
+) -> Result<Day, DemoFault> {
+    let (Some(market), Some(one), Some(two)) = (market, one, two) else {
+        return Err(DemoFault::NoThread);
+    };
+    let (market, one, two) = (market.join(rt), one.join(rt), two.join(rt));
+    day_of(ran, market, one.and(two))
 }
 
 /// The day of a gateway that ran to its end, where its clients have done all that they do; else why they have not: by
