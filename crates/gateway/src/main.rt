@@ -264,13 +264,56 @@ fn refused_key(rt: &HostRuntime, key: &str) -> ExitCode {
 
 /// A gateway that is to be run: its settings, how many links of each client are served, and where its day's journal
 /// goes.
-#[derive(Drop)]
 struct AskedRun<'a> {
     file: SettingsFile,
     links: u16,
     journal: Option<DayJournal>,
     /// Where the journal is.
     path: Option<&'a str>,
+}
+
+// Not derived: then each way out drops it in one call (docs/DECISIONS.md, "Drops").
+impl<'a> Drop for AskedRun<'a> {
+    fn drop(self) {
+        let AskedRun {
+            file: _,
+            links: _,
+            journal: _,
+            path: _,
+        } = self;
+    }
+}
+
+impl<'a> AskedRun<'a> {
+    /// Runs the gateway, and gives its day.
+    fn run<R>(
+        self,
+        rt: &R,
+        alloc: Global,
+        hasher: RandomState,
+        lines: &LineQueue,
+    ) -> Result<Day, RunFault>
+    where
+        R: Threads
+            + Wait
+            + Sync
+            + Clock
+            + Net<Listener = TcpListener, Stream = TcpStream>
+            + RandomSource
+            + Copy
+            + Send
+            + Drop
+            + 'static,
+    {
+        let AskedRun {
+            file,
+            links,
+            journal,
+            path: _,
+        } = self;
+        let queued = Queued::new(*rt, lines);
+        run_settings(&queued, alloc, hasher, file, u32::from(links), journal)
+    }
 }
 
 /// What `run` asks for, or the status where it is refused. A journal's file is made, or is of a day that goes on.
@@ -322,14 +365,8 @@ where
         Ok(lines) => lines,
         Err(fault) => return ExitCode::from(tell(fault, faults)),
     };
-    let AskedRun {
-        file,
-        links,
-        journal,
-        path,
-    } = asked;
-    let queued = Queued::new(*rt, &lines);
-    let ran = run_settings(&queued, alloc, hasher, file, u32::from(links), journal);
+    let path = asked.path;
+    let ran = asked.run(rt, alloc, hasher, &lines);
     lines.end(rt);
     let status = match ran {
         Ok(day) => ended(rt, alloc, &day, path, &mut output, faults),

@@ -19,10 +19,10 @@ use std::random::RandomSource;
 use std::sync::{Arc, Wait};
 use std::thread::Threads;
 use std::time::Clock;
+use stderr_queue::LineQueue;
 
 /// A gateway that is to be served until it is told to end: its settings, its listeners, and where its day's journal
 /// goes.
-#[derive(Drop)]
 pub(crate) struct AskedServe<'a> {
     file: SettingsFile,
     operator: OperatorSettings,
@@ -30,6 +30,19 @@ pub(crate) struct AskedServe<'a> {
     journal: Option<DayJournal>,
     /// Where the journal is.
     path: Option<&'a str>,
+}
+
+// Not derived: then each way out drops it in one call (docs/DECISIONS.md, "Drops").
+impl<'a> Drop for AskedServe<'a> {
+    fn drop(self) {
+        let AskedServe {
+            file: _,
+            operator: _,
+            bound: _,
+            journal: _,
+            path: _,
+        } = self;
+    }
 }
 
 impl<'a> AskedServe<'a> {
@@ -46,6 +59,36 @@ impl<'a> AskedServe<'a> {
             journal: None,
             path: None,
         }
+    }
+
+    /// Serves the gateway until it is told to end, and gives its day.
+    fn serve<R>(
+        self,
+        rt: &R,
+        alloc: Global,
+        hasher: RandomState,
+        lines: Arc<LineQueue>,
+    ) -> Result<Day, RunFault>
+    where
+        R: Threads
+            + Wait
+            + Sync
+            + Clock
+            + Net<Listener = TcpListener, Stream = TcpStream>
+            + RandomSource
+            + Copy
+            + Send
+            + Drop
+            + 'static,
+    {
+        let AskedServe {
+            file,
+            operator,
+            bound,
+            journal,
+            path: _,
+        } = self;
+        serve_day(rt, alloc, hasher, file, operator, bound, lines, journal)
     }
 }
 
@@ -133,13 +176,7 @@ where
         let _ = writeln!(faults, "out of memory");
         return ExitCode::from(1);
     };
-    let AskedServe {
-        file,
-        operator,
-        bound,
-        journal,
-        path,
-    } = asked;
+    let path = asked.path;
     let lines = match lines_of(rt, alloc) {
         Ok(lines) => lines,
         Err(fault) => return ExitCode::from(tell(fault, faults)),
@@ -147,7 +184,7 @@ where
     let Ok(theirs) = Arc::try_clone(&lines) else {
         return ExitCode::from(tell(RunFault::NoMemory, faults));
     };
-    let ran = serve_day(rt, alloc, hasher, file, operator, bound, theirs, journal);
+    let ran = asked.serve(rt, alloc, hasher, theirs);
     lines.end(rt);
     ExitCode::from(status_of(rt, alloc, ran, path, &mut output, faults))
 }
@@ -177,12 +214,37 @@ fn status_of<R: Files<File = File>, W: Write, F: Write>(
 }
 
 /// The day of a gateway that stopped, which is to be ended: its settings, and its journal.
-#[derive(Drop)]
 pub(crate) struct AskedEnd<'a> {
     file: SettingsFile,
     journal: DayJournal,
     /// Where the journal is.
     path: &'a str,
+}
+
+// Not derived: then each way out drops it in one call (docs/DECISIONS.md, "Drops").
+impl<'a> Drop for AskedEnd<'a> {
+    fn drop(self) {
+        let AskedEnd {
+            file: _,
+            journal: _,
+            path: _,
+        } = self;
+    }
+}
+
+impl<'a> AskedEnd<'a> {
+    /// Ends the day, and gives it.
+    fn end<R>(self, rt: &R, alloc: Global, hasher: RandomState) -> Result<Day, RunFault>
+    where
+        R: Threads + Wait + Sync + Clock + Eprint + Net<Listener = TcpListener, Stream = TcpStream>,
+    {
+        let AskedEnd {
+            file,
+            journal,
+            path: _,
+        } = self;
+        end_stopped(rt, alloc, hasher, file, journal)
+    }
 }
 
 /// What `end` of a journal asks for, or the status where it is refused: of settings, or of a journal that can't be had.
@@ -226,12 +288,8 @@ where
         let _ = writeln!(faults, "out of memory");
         return ExitCode::from(1);
     };
-    let AskedEnd {
-        file,
-        journal,
-        path,
-    } = asked;
-    let ran = end_stopped(rt, alloc, hasher, file, journal);
+    let path = asked.path;
+    let ran = asked.end(rt, alloc, hasher);
     ExitCode::from(status_of(rt, alloc, ran, Some(path), &mut output, faults))
 }
 
