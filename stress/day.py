@@ -36,7 +36,7 @@ UP = re.compile(r"\d{8}-\d\d:\d\d:\d\d\.\d{3} (C\d+) up from [0-9.:]+(, \d+ conn
 SERVED = [re.compile(it) for it in (
     r"\d{8}-\d\d:\d\d:\d\d\.\d{3} P\d+ (up at [0-9.:]+|[0-9.:]+: [ -~]+; next try in \d+ s)",
     r"\d{8}-\d\d:\d\d:\d\d\.\d{3} P\d+ \d+ orders wait, since \d\d:\d\d:\d\d",
-    r"\d{8}-\d\d:\d\d:\d\d\.\d{3} P\d+ next login in \d+ s",
+    r"\d{8}-\d\d:\d\d:\d\d\.\d{3} P\d+ (next login in \d+ s|session ended by the market)",
     r"gateway: the day ends: no further link is taken", r"gateway: journal: \S+ (goes on|ends) behind \d+ events",
     r"gateway: journal: \d+ bytes of a write that was cut short are cut off")]
 MEMORY = re.compile(r"\d{8}-\d\d:\d\d:\d\d\.\d{3} gateway: (out of memory: events wait|memory is back after \d+\.\d s)")
