@@ -6,7 +6,6 @@ use crate::ending::end_in_time;
 use crate::naming::names_of;
 use crate::served_port::ServedPort;
 use crate::waiting_room::WaitingRoom;
-use audit_lines::Settings;
 use gateway_control::{DayControl, Endpoint, Rules, serve_endpoint};
 use gateway_run::{
     Day, DayJournal, LinkRules, RunFault, RunPlan, SettingsFile, Teller, Whose, run_shown,
@@ -57,32 +56,21 @@ where
     } = file;
     let queued = Queued::new(*rt, &lines);
     let (flags, asked) = (&begun.flags, &begun.asked);
-    let ran = serve_links(
-        &queued, alloc, hasher, settings, clients, &from, &addresses, journal, flags, asked,
-    );
+    let ran = match plan_of(&queued, alloc, clients, &from, &addresses, flags, asked) {
+        Ok(plan) => run_shown(
+            &queued,
+            alloc,
+            hasher,
+            settings,
+            journal,
+            plan,
+            flags.ports(),
+            asked.board(),
+        ),
+        Err(_) => Err(RunFault::NoMemory),
+    };
     begun.end(rt);
     ran
-}
-
-/// Serves the links of a day until it ends, and gives it.
-fn serve_links<'a, R>(
-    rt: &'a R,
-    alloc: Global,
-    hasher: RandomState,
-    settings: Settings,
-    listeners: Vec<TcpListener>,
-    from: &'a [Vec<AddressRange>],
-    addresses: &'a [String],
-    journal: Option<DayJournal>,
-    flags: &'a DayFlags,
-    asked: &'a DayControl,
-) -> Result<Day, RunFault>
-where
-    R: Threads + Wait + Sync + Clock + Eprint + Net<Listener = TcpListener, Stream = TcpStream>,
-{
-    let plan = plan_of(rt, alloc, listeners, from, addresses, flags, asked)?;
-    let (is_over, board) = (flags.ports(), asked.board());
-    run_shown(rt, alloc, hasher, settings, journal, plan, is_over, board)
 }
 
 /// A day that has begun, but for its links: what is asked of it, its flags, the thread that ends it, and those of its
