@@ -1,6 +1,6 @@
 //! How a desk is opened.
 
-ghost use Rattle.std.specs.Prelude.{◌≡◌, ℕ, [], Some, length, slice_get, IfOk};
+ghost use Rattle.std.specs.Prelude.{◌≡◌, ℕ, [], Some, length, slice_get, vec_len, IfOk};
 ghost use Rattle.desk_ends.specs.Rings.{Putting, Taking};
 
 use crate::shared::Shared;
@@ -109,7 +109,9 @@ pub fn open_desk<K: DeskName, S: BuildHasher + Drop>(
 }
 
 /// So many bells.
-fn bells_of(alloc: Global, count: usize) -> Result<Vec<Parker>, AllocError> {
+fn bells_of(alloc: Global, count: usize) -> Result<Vec<Parker>, AllocError>
+    ensures { IfOk result (λ bells. vec_len bells ≡ count) }
+{
     let mut bells = Vec::new(alloc);
     for _ in 0..count {
         bells.push(Parker::new())?;

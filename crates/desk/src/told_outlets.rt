@@ -1,5 +1,8 @@
 //! Whom rounds told something.
 
+ghost use Rattle.std.specs.Prelude.{◌≡◌, ◌<◌, true, bit_or};
+ghost use Rattle.std.specs.Int.{bit_at};
+
 use std::alloc::Global;
 
 /// The outlets that were told something, by position.
@@ -11,24 +14,33 @@ pub struct ToldOutlets {
 
 impl ToldOutlets {
     /// Those whose bits are set.
-    pub(crate) fn of_bits(bits: u128) -> ToldOutlets {
+    pub(crate) fn of_bits(bits: u128) -> ToldOutlets
+        ensures { result.bits ≡ bits }
+    {
         ToldOutlets { bits }
     }
 
     /// Those of either.
-    pub(crate) fn and(self, others: ToldOutlets) -> ToldOutlets {
+    pub(crate) fn and(self, others: ToldOutlets) -> ToldOutlets
+        ensures { result.bits ≡ bit_or self.bits others.bits }
+    {
         ToldOutlets {
             bits: self.bits | others.bits,
         }
     }
 
     /// Whether there is none.
-    pub fn is_empty(self) -> bool {
+    pub fn is_empty(self) -> bool
+        ensures { result ≡ true → self.bits ≡ 0 }
+    {
         self.bits == 0
     }
 
     /// Whether the outlet at this position is one of them.
-    pub fn contains(self, position: usize) -> bool {
+    pub fn contains(self, position: usize) -> bool
+        ensures yes { position < 128 → bit_at self.bits position ≡ 1 → result ≡ true }
+        ensures no { result ≡ true → bit_at self.bits position ≡ 1 }
+    {
         position < 128 && self.bits >> position & 1 == 1
     }
 }
