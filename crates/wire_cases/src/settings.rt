@@ -1,40 +1,17 @@
-//! Reads settings files: what is written into one in each line of standard input, the line and what comes of it to
-//! standard output. `README.md` has the lines.
-#![tactic(auto)]
+//! Settings files that lines say.
 
 mod files;
 mod reading;
 mod shown;
 
-use case_lines::{Answers, answer_lines, first_word};
+use case_lines::first_word;
 use files::{changed, good_file, lines_of, of_many, two_of_each};
 use reading::outcome;
 use settings_file::EXAMPLE;
 use std::alloc::{AllocError, Global};
-use std::io;
-
-fn main(rt: HostRuntime) -> io::Result<()> {
-    answer_lines(
-        rt.alloc(),
-        &mut SettingsFiles,
-        rt.reader(),
-        &mut io::writer(&rt),
-    )
-}
-
-/// The reading of settings files.
-#[derive(Clone, Copy)]
-struct SettingsFiles;
-
-impl Answers for SettingsFiles {
-    fn answer(&mut self, alloc: Global, call: &str) -> Result<String, AllocError> {
-        answer_to(alloc, call)
-    }
-}
 
 /// What comes of the file that a line says.
-fn answer_to(alloc: Global, line: &str) -> Result<String, AllocError> {
-    let (word, rest) = first_word(line);
+pub fn answer(alloc: Global, word: &str, rest: &str) -> Result<String, AllocError> {
     match word {
         "good" => outcome(alloc, changed(alloc, good_file(alloc)?, rest)?.as_bytes()),
         "two" => outcome(alloc, changed(alloc, two_of_each(alloc)?, rest)?.as_bytes()),

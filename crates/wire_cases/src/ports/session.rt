@@ -1,6 +1,6 @@
 //! A port's session, and what it gives.
 
-use crate::packets::{copies_of, packet_of, show_packet};
+use super::packets::{copies_of, packet_of, show_packet};
 use decimal_digits::number_of;
 use itoa::Buffer;
 use soup_packets::{Packet, Payload, WholeWire};
@@ -8,22 +8,22 @@ use soup_session::{PortFault, PortOut, PortSession, PortState, PortTurn};
 use std::alloc::{AllocError, Global};
 
 /// A session, and the moment of its next call.
-pub struct Port {
+pub struct Stepped {
     session: PortSession,
     at: u64,
 }
 
 /// Written by hand, so that one call drops all.
-impl Drop for Port {
+impl Drop for Stepped {
     fn drop(self) {
-        let Port { session: _, at: _ } = self;
+        let Stepped { session: _, at: _ } = self;
     }
 }
 
-impl Port {
+impl Stepped {
     /// A session of the user and password of all cases, of which no call was made, at moment 0.
-    pub fn new() -> Port {
-        Port {
+    pub fn new() -> Stepped {
+        Stepped {
             session: PortSession::new(b"USER01", b"PASSWORD"),
             at: 0,
         }

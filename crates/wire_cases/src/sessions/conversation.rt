@@ -3,7 +3,7 @@
 ghost use Rattle.std.specs.Prelude.{◌≡◌, IfOk, None, true};
 ghost use Rattle.fix_session.specs.Formats.{application_refusal};
 
-use crate::shown::{fields_of, from_client, show_issued, show_message, show_turn};
+use super::shown::{fields_of, from_client, show_issued, show_message, show_turn};
 use case_lines::{Conversation, bytes_of, first_word, number_of};
 use fix_framing::{FrameFault, Framer};
 use fix_session::{IssuedTurn, Session, SessionTurn, application_of};

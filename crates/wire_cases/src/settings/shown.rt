@@ -1,6 +1,6 @@
 //! What a file says.
 
-use crate::reading::refused;
+use super::reading::refused;
 use settings_file::{Settings, SettingsFile, read};
 use std::alloc::{AllocError, Global};
 use std::str;

@@ -1,6 +1,6 @@
 //! A market, and the packets that it gives.
 
-use crate::packets::show_packet;
+use super::packets::show_packet;
 use market_sim::{Choice, Packet, Payload, Sim, SimEvent, Trading};
 use soup_packets::WholeWire;
 use std::alloc::{AllocError, Global};
