@@ -1,11 +1,11 @@
 //! Streams that are read, and what a plain program makes of them.
 
-use crate::gate::Kept;
-use crate::plain_frames::read_frames;
-use crate::plain_packets::read_packets;
-use crate::recorded::Form;
-use crate::streams::Pieces;
-use crate::tally::Tally;
+use super::gate::Kept;
+use super::plain_frames::read_frames;
+use super::plain_packets::read_packets;
+use super::recorded::Form;
+use super::streams::Pieces;
+use super::tally::Tally;
 use link_io::{
     ClientNumber, ClientReader, Decoder, Event, LinkFault, PortNumber, PortReader, Progress, Reader,
 };

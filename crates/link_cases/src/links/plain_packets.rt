@@ -2,7 +2,7 @@
 //!
 //! Source: SoupBinTCP 3.00, "Logical Packets".
 
-use crate::changing::halves;
+use super::changing::halves;
 use std::alloc::AllocError;
 
 /// Type and payload of each packet, in order, into `packets`; whether a packet without a type follows.

@@ -1,10 +1,10 @@
-//! What a line of a test is served with: a clock, a stream, and links that are counted.
+//! What a line is served with: a clock, a stream, and links that are counted.
 
 use gate_serving::{Closer, LinkEnd, Opened, Opener};
 use gate_workers::Clock;
 use link_io::{LinkFault, Prompt};
 use std::io::{self, Read, Write};
-use std::sync::atomic::{AtomicBool, AtomicU32, Ordering};
+use std::sync::atomic::{AtomicBool, AtomicU64, Ordering};
 use std::thread;
 use std::time::{self, Duration};
 
@@ -72,38 +72,38 @@ impl Prompt for Takes {
 /// Counts how often links were shut down.
 #[derive(Drop)]
 pub struct Shuts<'a> {
-    pub often: &'a AtomicU32,
+    pub shut: &'a AtomicU64,
 }
 
 impl<'a> Closer for Shuts<'a> {
     fn close(&mut self, _is_read: &AtomicBool) {
-        self.often.fetch_add(1, Ordering::SeqCst);
+        self.shut.fetch_add(1, Ordering::SeqCst);
     }
 }
 
 /// Opens so many links of the same bytes; where `fails_at` of them are left, opening fails once.
-pub struct Links<'a> {
+pub struct StreamLinks<'a> {
     pub stream: &'a [u8],
     pub left: u32,
     pub fails_at: u32,
-    pub often: &'a AtomicU32,
+    pub shut: &'a AtomicU64,
     pub ends: Vec<LinkEnd>,
 }
 
 /// Written by hand, so that one call drops all.
-impl<'a> Drop for Links<'a> {
+impl<'a> Drop for StreamLinks<'a> {
     fn drop(self) {
-        let Links {
+        let StreamLinks {
             stream: _,
             left: _,
             fails_at: _,
-            often: _,
+            shut: _,
             ends: _,
         } = self;
     }
 }
 
-impl<'a> Opener for Links<'a> {
+impl<'a> Opener for StreamLinks<'a> {
     ghost use Rattle.std.specs.Prelude.{◌≡◌, ◌-◌, ◌^◌};
 
     ghost opened = { λ links. 2 ^ 32 - links.left };
@@ -128,7 +128,7 @@ impl<'a> Opener for Links<'a> {
         Some(Ok(Opened {
             reader: Pieces { rest: self.stream },
             writer: Takes,
-            closer: Shuts { often: self.often },
+            closer: Shuts { shut: self.shut },
         }))
     }
 

@@ -1,9 +1,9 @@
 //! Lists of what links are told, and what goes out on one of them.
 
-use crate::gate::Kept;
-use crate::recorded::one_of;
-use crate::streams::Torn;
-use crate::tally::Tally;
+use super::gate::Kept;
+use super::recorded::one_of;
+use super::streams::Torn;
+use super::tally::Tally;
 use link_io::{BatchWriter, LinkFault, LinkOut, ShortList};
 use seeded_choices::Chance;
 use std::alloc::{AllocError, Global};

@@ -1,8 +1,8 @@
 //! Pages, read, and what they say written again.
 
-use crate::records::{front_size, split};
-use crate::tally::Outcome;
-use gate_journal::{History, PageFault};
+use super::records::{front_size, split};
+use super::tally::Outcome;
+use gate_journal::{Batch, Event, History, PageFault};
 use journal_pages::{Page, WholeWire};
 use std::alloc::{AllocError, Global};
 
@@ -66,13 +66,24 @@ fn outcome_of(alloc: Global, history: &History, pages: &[Vec<u8>]) -> Result<Out
 
 /// A history of the same events and batches, pushed one by one.
 pub fn pushed_again(alloc: Global, history: &History) -> Result<History, AllocError> {
+    let mut again = History::new(alloc);
+    push_all(alloc, history, &mut again)?;
+    Ok(again)
+}
+
+/// Pushes the events and batches of a history into another one.
+fn push_all(alloc: Global, history: &History, again: &mut History) -> Result<(), AllocError> {
     let events = history.events(alloc)?;
     let batches = history.batches(alloc)?;
-    let mut again = History::new(alloc);
-    for (event, batch) in events.iter().zip(batches.iter()) {
+    push_each(events.as_slice(), batches.as_slice(), again)
+}
+
+/// Pushes events, each with its batch.
+fn push_each(events: &[Event], batches: &[Batch], again: &mut History) -> Result<(), AllocError> {
+    for (event, batch) in events.iter().zip(batches) {
         again.push(event, batch)?;
     }
-    Ok(again)
+    Ok(())
 }
 
 /// Whether pages have the same records as others, one behind another.

@@ -1,7 +1,7 @@
 //! A stream without an end, read to the last step.
 
-use crate::gate::Kept;
-use crate::tally::print_count;
+use super::gate::Kept;
+use super::tally::print_count;
 use link_io::{ClientNumber, ClientReader, LinkFault, Progress};
 use seeded_choices::Chance;
 use std::alloc::{AllocError, Global};

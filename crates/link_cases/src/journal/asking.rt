@@ -1,7 +1,7 @@
 //! What a history answers that pages are.
 
-use crate::reading::pushed_again;
-use crate::words::first_number;
+use super::reading::pushed_again;
+use super::words::first_number;
 use case_lines::first_word;
 use gate_journal::{
     Batch, ClientNumber, Event, History, LinkOut, PortNumber, Recipient, Source, Told,

@@ -3,7 +3,7 @@
 //! Source: FIX 4.4 Volume 1, "Message Format"; Volume 2, "Standard Message Header", "CheckSum Calculation". That a
 //! frame has at most 8,192 bytes, and a length at most six digits, is the gateway's own.
 
-use crate::changing::halves;
+use super::changing::halves;
 use std::alloc::AllocError;
 
 /// BeginString, and the tag of BodyLength.

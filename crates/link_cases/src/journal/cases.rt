@@ -1,26 +1,27 @@
 //! The lines of the cases, one after another.
 
-use crate::asking::{answer, is_kept, question_of};
-use crate::changing::{Change, changed_all};
-use crate::reading::{Reader, outcome};
-use crate::records::{record_said, ticks_said};
-use crate::resending::is_resend_whole;
-use crate::tally::Outcome;
-use crate::words::{bytes_said, fault_named, first_number};
-use case_lines::first_word;
+use super::asking::{answer, is_kept, question_of};
+use super::changing::{Change, changed_all};
+use super::reading::{Reader, outcome};
+use super::records::{record_said, ticks_said};
+use super::resending::is_resend_whole;
+use super::tally::Outcome;
+use super::words::{bytes_said, fault_named, first_number};
+use case_lines::{Lines, first_word};
 use std::alloc::{AllocError, Global};
+use std::io;
 
 /// The pages of a case, as far as its lines have written them.
-pub struct Cases {
+pub struct Days {
     name: String,
     reader: Reader,
     pages: Vec<Vec<u8>>,
 }
 
 /// Written by hand, so that one call drops all.
-impl Drop for Cases {
+impl Drop for Days {
     fn drop(self) {
-        let Cases {
+        let Days {
             name: _,
             reader: _,
             pages: _,
@@ -28,10 +29,18 @@ impl Drop for Cases {
     }
 }
 
-impl Cases {
+impl Lines for Days {
+    fn take(&mut self, alloc: Global, line: &str, shown: &mut Vec<u8>) -> io::Result<()> {
+        let mut text = String::new(alloc);
+        self.step(alloc, line, &mut text)?;
+        Ok(shown.extend_from_slice(text.as_bytes())?)
+    }
+}
+
+impl Days {
     /// No case yet.
-    pub fn new(alloc: Global) -> Cases {
-        Cases {
+    pub fn new(alloc: Global) -> Days {
+        Days {
             name: String::new(alloc),
             reader: Reader::Day,
             pages: Vec::new(alloc),
@@ -39,12 +48,7 @@ impl Cases {
     }
 
     /// Does what a line says, and shows what comes of it.
-    pub fn step(
-        &mut self,
-        alloc: Global,
-        text: &str,
-        shown: &mut String,
-    ) -> Result<(), AllocError> {
+    fn step(&mut self, alloc: Global, text: &str, shown: &mut String) -> Result<(), AllocError> {
         let (word, rest) = first_word(text);
         if self.write(alloc, word, rest)? || self.change(alloc, word, shown)? {
             return Ok(());

@@ -1,7 +1,7 @@
 //! Streams of what was recorded, with changes.
 
-use crate::changing::changed;
-use crate::plain_frames::{OPENING, SOH, trailer_of};
+use super::changing::changed;
+use super::plain_frames::{OPENING, SOH, trailer_of};
 use seeded_choices::Chance;
 use std::alloc::{AllocError, Global};
 

@@ -1,8 +1,8 @@
 //! Pages that are changed in each way of a kind.
 
-use crate::reading::{Reader, outcome};
-use crate::records::{between, front_size, places_of};
-use crate::tally::Tally;
+use super::reading::{Reader, outcome};
+use super::records::{between, front_size, places_of};
+use super::tally::Tally;
 use std::alloc::{AllocError, Global};
 
 /// In which way pages are changed.
@@ -26,23 +26,39 @@ pub fn changed_all(
     pages: &[Vec<u8>],
 ) -> Result<Tally, AllocError> {
     let mut tally = Tally::new();
-    for (number, page) in pages.iter().enumerate() {
-        let places = places_of(alloc, page.as_slice())?;
-        let (firsts, seconds) = counts_of(change, page.len(), places.len());
-        for first in 0..firsts {
-            for second in 0..seconds {
-                let parts = parts_of(
-                    alloc,
-                    change,
-                    page.as_slice(),
-                    places.as_slice(),
-                    (first, second),
-                )?;
-                count_changed(alloc, reader, change, pages, number, parts, &mut tally)?;
-            }
-        }
+    for number in 0..pages.len() {
+        change_page(alloc, reader, change, pages, number, &mut tally)?;
     }
     Ok(tally)
+}
+
+/// Counts what comes of all changes of the page of a number.
+fn change_page(
+    alloc: Global,
+    reader: Reader,
+    change: Change,
+    pages: &[Vec<u8>],
+    number: usize,
+    tally: &mut Tally,
+) -> Result<(), AllocError> {
+    let page = page_at(pages, number);
+    let places = places_of(alloc, page)?;
+    let (firsts, seconds) = counts_of(change, page.len(), places.len());
+    for first in 0..firsts {
+        for second in 0..seconds {
+            let parts = parts_of(alloc, change, page, places.as_slice(), (first, second))?;
+            count_changed(alloc, reader, change, pages, number, parts, tally)?;
+        }
+    }
+    Ok(())
+}
+
+/// The page of a number; no bytes where there is none.
+fn page_at(pages: &[Vec<u8>], number: usize) -> &[u8] {
+    match pages.get(number) {
+        Some(page) => page.as_slice(),
+        None => &[],
+    }
 }
 
 /// Counts what comes of pages with these in place of the one of a number, where there are some.

@@ -1,14 +1,16 @@
 //! The lines of the cases, one after another.
 
-use crate::endless::read_endless;
-use crate::reading::read_stream;
-use crate::recorded::{Form, stream_of};
-use crate::stepping::Stepped;
-use crate::tally::Tally;
-use crate::writing::write_lists;
+use super::endless::read_endless;
+use super::reading::read_stream;
+use super::recorded::{Form, stream_of};
+use super::stepping::Stepped;
+use super::tally::Tally;
+use super::writing::write_lists;
+use case_lines::Lines;
 use script_lines::{Line, LineFault, line_of};
 use seeded_choices::Chance;
 use std::alloc::{AllocError, Global};
+use std::io;
 
 /// What a seed makes.
 #[derive(Clone, Copy)]
@@ -20,16 +22,16 @@ enum Making {
 }
 
 /// What was recorded so far, bodies of frames, and type and payload of packets; and the link that is stepped.
-pub struct Cases {
+pub struct Links {
     bodies: Vec<Vec<u8>>,
     packets: Vec<Vec<u8>>,
     stepped: Stepped,
 }
 
 /// Written by hand, so that one call drops all.
-impl Drop for Cases {
+impl Drop for Links {
     fn drop(self) {
-        let Cases {
+        let Links {
             bodies: _,
             packets: _,
             stepped: _,
@@ -37,27 +39,23 @@ impl Drop for Cases {
     }
 }
 
-impl Cases {
+impl Lines for Links {
+    fn take(&mut self, alloc: Global, line: &str, shown: &mut Vec<u8>) -> io::Result<()> {
+        let text = line.as_bytes();
+        if !self.stepped.does(alloc, text, shown)? && !self.does(alloc, text, shown)? {
+            note(text, shown)?;
+        }
+        Ok(())
+    }
+}
+
+impl Links {
     /// Nothing was recorded.
-    pub fn new(alloc: Global) -> Cases {
-        Cases {
+    pub fn new(alloc: Global) -> Links {
+        Links {
             bodies: Vec::new(alloc),
             packets: Vec::new(alloc),
             stepped: Stepped::new(alloc, 1),
-        }
-    }
-
-    /// Does what a line says, and shows what comes of it.
-    pub fn step(
-        &mut self,
-        alloc: Global,
-        text: &[u8],
-        shown: &mut Vec<u8>,
-    ) -> Result<(), AllocError> {
-        if self.stepped.does(alloc, text, shown)? || self.does(alloc, text, shown)? {
-            Ok(())
-        } else {
-            note(text, shown)
         }
     }
 

@@ -1,9 +1,9 @@
 //! Readers and a writer of one link, each step of which a line asks for and is printed.
 
-use crate::cases::words_of;
-use crate::gate::Kept;
-use crate::limited::Limited;
-use crate::tally::print_count;
+use super::cases::words_of;
+use super::gate::Kept;
+use super::limited::Limited;
+use super::tally::print_count;
 use decimal_digits::number_of;
 use link_io::{
     BatchWriter, ClientNumber, ClientReader, Decoder, Event, LinkFault, LinkOut, PortNumber,

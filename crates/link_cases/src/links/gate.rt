@@ -1,6 +1,6 @@
 //! A gate that keeps what it was given, and gives events back at times.
 
-ghost use Rattle.std.specs.Prelude.{◌≡◌, map, IfOk};
+ghost use Rattle.std.specs.Prelude.{◌≡◌, [], map, IfOk};
 ghost use Rattle.gate_events.specs.Seen.{link_out_seen};
 
 use link_io::{Event, Gate, LinkOut, ShortList};
@@ -11,7 +11,6 @@ use std::sync::atomic::{AtomicU64, Ordering};
 
 /// A gate that keeps the events that were put and the lists that were taken. It gives an event back once in so many
 /// times.
-#[derive(Drop)]
 pub struct Kept {
     alloc: Global,
     chance: Chance,
@@ -24,11 +23,32 @@ pub struct Kept {
     pub given: Vec<ShortList<LinkOut>>,
     /// How many bytes of frames it was told.
     pub sent: AtomicU64,
+    /// How often it was to wake its line's writer.
+    pub woken: AtomicU64,
+}
+
+/// Written by hand, so that one call drops all.
+impl Drop for Kept {
+    fn drop(self) {
+        let Kept {
+            alloc: _,
+            chance: _,
+            back_once_in: _,
+            is_full: _,
+            events: _,
+            lists: _,
+            given: _,
+            sent: _,
+            woken: _,
+        } = self;
+    }
 }
 
 impl Kept {
     /// Nothing was put, and nothing lies there.
-    pub fn new(alloc: Global, chance: Chance, back_once_in: usize) -> Kept {
+    pub fn new(alloc: Global, chance: Chance, back_once_in: usize) -> Kept
+        ensures given { result.given.items ≡ [] }
+    {
         Kept {
             alloc,
             chance,
@@ -38,7 +58,15 @@ impl Kept {
             lists: Vec::new(alloc),
             given: Vec::new(alloc),
             sent: AtomicU64::new(0),
+            woken: AtomicU64::new(0),
         }
+    }
+
+    /// A `Close` of a link lies there.
+    pub fn lay_close(&mut self, link: u64) -> Result<(), AllocError>
+        ensures given { self.new.given ≡ self.old.given }
+    {
+        Ok(self.lists.push(ShortList::of(LinkOut::Close { link }))?)
     }
 
     /// The list lies there again, where memory ran out for a copy of it: its place is still there.
@@ -91,6 +119,10 @@ impl Gate for Kept {
 
     fn tell_sent(&self, frames: &[u8]) {
         self.sent.fetch_add(frames.len() as u64, Ordering::SeqCst);
+    }
+
+    fn wake_writer(&self) {
+        self.woken.fetch_add(1, Ordering::SeqCst);
     }
 }
 

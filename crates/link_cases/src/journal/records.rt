@@ -1,6 +1,6 @@
 //! Records by the format alone, as bytes.
 
-use crate::words::{bytes_said, first_number};
+use super::words::{bytes_said, first_number};
 use std::alloc::{AllocError, Global};
 
 /// How many bytes stand before a record's payload.
