@@ -1,15 +1,23 @@
 """Days of `gateway run`, which serves a counted number of links of each client, and then ends by itself."""
 import re
+import resource
+import signal
+import socket
+import time
 
-from .peers import holds_within
+from .peers import PATIENCE, holds_within
+from .stage import LeftOut, since
 
+# in units of 1,024 bytes, as a shell's limits are
+GIB = 2 ** 20
 FIRST = "C1 A1 side 1 executed 100 open 0 cancelled 0 value 10000000 agree\n"
 AUDIT = (FIRST + "C1 A2 side 1 executed 200 open 0 cancelled 0 value 21000000 agree\n"
          "C2 A3 side 1 executed 300 open 0 cancelled 0 value 33000000 agree\norders 3 agree 3\n")
 
 
 def all_come_and_go(stage):
-    """64 clients on 16 ports are all logged on at once, and log out: an audit of no order, and no fault"""
+    """64 clients on 16 ports are all logged on at once, and log out: each Logout is told, and the day ends at once, with an
+    audit of no order, and no fault"""
     clients, addresses = stage.set_up(64, 16, control=False)
     for address in addresses:
         stage.market(address, is_silent=True)
@@ -20,8 +28,13 @@ def all_come_and_go(stage):
         stage.holds(f"{client.name} is logged out", client.log_out() is not None)
     for client in clients:
         stage.same(f"the link of {client.name}", "end", client.ending())
+    begin = time.monotonic()
     stage.same("status and audit", (0, "orders 0 agree 0\n"), (gateway.status(), gateway.output.read_text()))
+    # ten seconds where it isn't known that all clients have had their links
+    stage.within("seconds from the last link to the end", 0, since(begin), 9)
     told = gateway.lines()
+    for number in range(1, 65):
+        stage.same(f"Logouts of C{number} that are told", 1, sum(it.startswith(f"C{number} sent 35=5|") for it in told))
     for name in [f"C{n}" for n in range(1, 65)] + [f"P{n}" for n in range(1, 17)]:
         stage.same(f"links of {name}", 1, told.count(f"{name} up"))
     strange = [line for line in told if not re.fullmatch(r"[CP]\d+ (up|gone|closed by the gateway|sent 35=5\|.*)", line)]
@@ -77,10 +90,12 @@ def lost_links(stage):
     two.connect().log_on()
     two.order(b"A3", 300, b"11")
     stage.holds("the other client's order is filled", two.told(b"A3", b"F") is not None)
+    # whoever comes while a link is up waits in the system's queue, and isn't refused
+    following = socket.create_connection(two.where)
     stage.holds("it logs out", two.log_out() is not None)
     two.ending()
     two.close()
-    stage.holds("it comes again", two.connect().log_on() is not None)
+    stage.holds("it comes again", two.goes_on_over(following).log_on() is not None)
     stage.same("numbers of what it was sent go on", [it + 1 for it in range(len(two.frames))],
                [frame.number for frame in two.frames])
     for client in (one, two):
@@ -92,4 +107,39 @@ def lost_links(stage):
                stage.asked("audit", "--journal", journal, "--settings", str(stage.settings)))
 
 
-STEPS_OF_COUNTED_DAYS = (all_come_and_go, lost_links, an_unlawful_market)
+def no_thread(stage):
+    """a gateway that has no thread for its lines says so, once no client was served for ten seconds; one that can have
+    none at all says so at once"""
+    most = resource.getrlimit(resource.RLIMIT_STACK)[1]
+    if most != resource.RLIM_INFINITY and most < GIB * 1024:
+        raise LeftOut(f"stacks have {most} bytes here at most")
+    stage.set_up(1, control=False)
+    begin = time.monotonic()
+    # a thread has a GiB for its stack: there is room for the one that writes standard error, and for no other
+    gateway = stage.gateway("run", limits=f"ulimit -s {GIB} && ulimit -v {2 * GIB}")
+    stage.same("what it comes to", (1, "gateway: no thread\n"), (gateway.status(), gateway.errors.read_text()))
+    stage.within("seconds", 9.9, since(begin), PATIENCE)
+    gateway = stage.gateway("run", limits=f"ulimit -s {GIB} && ulimit -v {GIB}")
+    stage.same("what another comes to", (1, "gateway: no thread\n"), (gateway.status(), gateway.errors.read_text()))
+
+
+def another_day(stage):
+    """the journal of a gateway that was killed isn't ended by settings that give another day, and is by its own"""
+    (client,), _ = stage.set_up(1, control=False)
+    journal = str(stage.folder / "day")
+    gateway = stage.gateway("run", "--journal", journal)
+    stage.holds("the client is logged on", client.connect().log_on() is not None)
+    gateway.process.send_signal(signal.SIGKILL)
+    gateway.status()
+    own, other = stage.settings, stage.folder / "other.toml"
+    other.write_text(own.read_text().replace('comp = "GATE"', 'comp = "GATF"'))
+    before = (stage.folder / "day").read_bytes()
+    status, output, told = stage.asked("end", "--settings", str(other), "--journal", journal)
+    stage.same("by other settings", (1, "", "gateway: journal: event 1 isn't what these settings give"),
+               (status, output, told.splitlines()[-1:] and told.splitlines()[-1]))
+    stage.holds("the journal is as it was", (stage.folder / "day").read_bytes() == before)
+    stage.same("by its own", (0, "orders 0 agree 0\n"),
+               stage.asked("end", "--settings", str(own), "--journal", journal)[:2])
+
+
+STEPS_OF_COUNTED_DAYS = (no_thread, all_come_and_go, lost_links, an_unlawful_market, another_day)

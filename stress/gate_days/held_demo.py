@@ -1,8 +1,9 @@
-"""`python3 -m stress.gate_days.held_demo GATEWAY`: `gateway demo`, whose market is met by somebody else first.
+"""`python3 -m stress.gate_days.held_demo GATEWAY LISTENER`: `gateway demo`, with a stranger at its `market`, or `client`.
 
 The demonstration is traced up to its third `listen`, that of its market, and stands still there: nobody has connected
-yet. Then this program does, and takes the market's one link, so that the gateway's port gets no answer and no order is
-filled. What the demonstration tells goes to standard output and standard error, and its status is the answer."""
+yet. Then this program does. It takes the market's one link, so that the gateway's port gets no answer and no order is
+filled; or the first client's, and announces too long a frame there. What the demonstration tells goes to standard
+output and standard error, and its status is the answer."""
 import ctypes
 import os
 import signal
@@ -14,7 +15,9 @@ TRACE_ME, PEEK_USER, SYSTEM_CALL, DETACH, SET_OPTIONS = 0, 3, 24, 17, 0x4200
 ORIG_RAX, LISTEN = 15 * 8, 50
 # stops at system calls are told apart by 0x80, and nothing that is traced outlives this program
 OPTIONS = 0x1 | 0x100000
+# those of the first client, of the second and of the market, in this order
 LISTENERS = 3
+TOO_LONG = b"8=FIX.4.4\x019=8169\x01"
 # the status where this machine lets nobody trace
 NO_TRACE = 3
 
@@ -57,21 +60,25 @@ def goes_to_its_listeners(process):
             is_entered = not is_entered
 
 
-def listens_last(process):
-    """The address of the listener of the process with the highest descriptor."""
+def listens_at(process):
+    """The addresses of the listeners of the process, in the order in which they were made."""
     descriptors = sorted(int(it) for it in os.listdir(f"/proc/{process}/fd"))
     of = {os.readlink(f"/proc/{process}/fd/{it}"): it for it in descriptors}
     with open(f"/proc/{process}/net/tcp", encoding="ascii") as file:
         rows = [line.split() for line in file.read().splitlines()[1:]]
     listening = [(of[f"socket:[{row[9]}]"], int(row[1].split(":")[1], 16)) for row in rows
                  if row[3] == "0A" and f"socket:[{row[9]}]" in of]
-    return max(listening)[1]
+    return [address for _, address in sorted(listening)]
 
 
 def main():
-    process = traced([sys.argv[1], "demo"])
+    program, listener = sys.argv[1:]
+    process = traced([program, "demo"])
     goes_to_its_listeners(process)
-    stranger = socket.create_connection(("127.0.0.1", listens_last(process)))
+    first, *_, market = listens_at(process)
+    stranger = socket.create_connection(("127.0.0.1", market if listener == "market" else first))
+    if listener == "client":
+        stranger.sendall(TOO_LONG)
     trace(DETACH, process)
     _, status = os.waitpid(process, 0)
     stranger.close()

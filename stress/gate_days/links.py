@@ -1,5 +1,6 @@
 """How links of clients and ports begin, are read, and end."""
 import calendar
+import ctypes
 import os
 import re
 import socket
@@ -7,10 +8,14 @@ import struct
 import time
 
 from .peers import PATIENCE, holds_within
-from .stage import since
+from .stage import LeftOut, since
 
 SECOND = 0.9  # a second, but for what clocks round
 X = b"x" * 10_000
+# x86-64 and others: the number of the system call by which a process has another one's descriptor
+PIDFD_GETFD = 438
+
+library = ctypes.CDLL(None, use_errno=True)
 
 
 def logged_out(client, more=b""):
@@ -165,22 +170,23 @@ def an_empty_packet(stage):
 
 
 def a_silent_day(stage):
-    """a day ends though one client never came, another is silent, and the market too; not before it is told to. Until
-    then nothing is done"""
-    clients, (address,) = stage.set_up(2)
-    market = stage.market(address)
+    """a day ends though one client never came, another is silent, and the markets too, which hear each port; not before
+    it is told to. Until then nothing is done"""
+    clients, addresses = stage.set_up(2, 3)
+    markets = [stage.market(it) for it in addresses]
     gateway = stage.gateway("serve")
     clients[0].connect().log_on()
-    stage.holds("the port has a link", holds_within(lambda: len(market.came) == 1))
+    stage.holds("each port has a link", holds_within(lambda: all(len(it.came) == 1 for it in markets)))
     before = processor(gateway)
     time.sleep(2)
     stage.same("a gateway that isn't told to end", None, gateway.process.poll())
     stage.within("seconds of a processor that it takes in two", 0, processor(gateway) - before, 1)
+    stage.holds("each market hears its port", holds_within(lambda: all(it.beats for it in markets)))
     begin = time.monotonic()
     stage.same("how the gateway ends", (0, 0), stage.end(gateway, "--now"))
     stage.within("seconds to the end", 0, since(begin), 30)
     stage.same("the client's link", "end", clients[0].ending())
-    stage.holds("the port's link ends", holds_within(lambda: market.ends == ["end"]))
+    stage.holds("the ports' links end", holds_within(lambda: all(it.ends == ["end"] for it in markets)))
 
 
 def processor(gateway):
@@ -310,6 +316,71 @@ def has_reports(client, begin, count):
     return client.wait(is_last, begin=begin) is not None
 
 
+def small_writes(stage):
+    """what a link is told goes out at once, be it little: the system holds nothing back on a client's link or a port's"""
+    (client,), (address,) = stage.set_up(1)
+    market = stage.market(address)
+    gateway = stage.gateway("serve")
+    stage.holds("the client is logged on", client.connect().log_on() is not None)
+    stage.holds("the port has a link", holds_within(lambda: len(market.came) == 1))
+    held = {}
+    for it in links_of(gateway.process.pid):
+        with it:
+            number = it.getsockname()[1] if it.getsockname()[1] == client.where[1] else it.getpeername()[1]
+            held.setdefault(number, set()).add(it.getsockopt(socket.IPPROTO_TCP, socket.TCP_NODELAY))
+    stage.same("TCP_NODELAY by link", {client.where[1]: {1}, address: {1}}, held)
+
+
+def links_of(process):
+    """The sockets of a process that are links, as this program's own."""
+    found, handle = [], os.pidfd_open(process)
+    for it in os.listdir(f"/proc/{process}/fd"):
+        if not os.readlink(f"/proc/{process}/fd/{it}").startswith("socket:"):
+            continue
+        number = library.syscall(PIDFD_GETFD, handle, int(it), 0)
+        if number < 0:
+            os.close(handle)
+            raise LeftOut(f"pidfd_getfd: {os.strerror(ctypes.get_errno())}")
+        one = socket.socket(fileno=number)
+        if one.family == socket.AF_INET and not one.getsockopt(socket.SOL_SOCKET, socket.SO_ACCEPTCONN):
+            found.append(one)
+        else:
+            one.close()
+    os.close(handle)
+    return found
+
+
+def time_passes_often(stage):
+    """five clients that log on a fifth of a second apart each hear a Heartbeat within half a second of their second"""
+    clients, _ = stage.set_up(5)
+    stage.gateway("serve")
+    longest = []
+    # a machine that is slow for half a second makes one late: then once more
+    while len(longest) < 8 and not (longest and min(longest) <= 1.5):
+        longest.append(longest_silence(stage, clients))
+    stage.within("the longest until a Heartbeat, at best", SECOND, min(longest), 1.5)
+
+
+def longest_silence(stage, clients):
+    """Has clients log on, a fifth of a second apart, and log out: the longest time from a Logon to a Heartbeat, by the
+    gateway's clock."""
+    spent = []
+    for client in clients:
+        client.interval, client.sent, client.frames = 1, 0, []
+        stage.holds(f"{client.name} is logged on", client.connect().log_on((141, b"Y")) is not None)
+        time.sleep(0.2)
+    for client in clients:
+        heard = client.wait(lambda frame: frame.kind == b"0")
+        stage.holds(f"{client.name} hears a Heartbeat", heard is not None)
+        began = next(it for it in client.frames if it.kind == b"A")
+        spent.append(seconds_of(heard[52].decode()) - seconds_of(began[52].decode()))
+    for client in clients:
+        client.send(b"5")
+        client.ending()
+        client.close()
+    return max(spent)
+
+
 def seconds_of(text):
     """A UTCTimestamp as seconds since 1970."""
     whole, _, part = text.partition(".")
@@ -317,4 +388,5 @@ def seconds_of(text):
 
 
 STEPS_OF_LINKS = (a_client_that_reads_nothing, a_client_that_asks_for_too_much, a_port_is_connected_again, last_words,
-                  closes_at_once, an_empty_packet, what_no_frame_is, an_absent_client, a_silent_day)
+                  closes_at_once, an_empty_packet, what_no_frame_is, an_absent_client, a_silent_day, time_passes_often,
+                  small_writes)

@@ -53,6 +53,10 @@ class Client:
                     raise
                 time.sleep(0.01)
         stream.setsockopt(socket.IPPROTO_TCP, socket.TCP_NODELAY, 1)
+        return self.goes_on_over(stream)
+
+    def goes_on_over(self, stream):
+        """A link over this stream."""
         self.stream, self.reader = stream, Reader()
         return self
 

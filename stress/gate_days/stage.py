@@ -97,14 +97,15 @@ class Stage:
             raise Wrong(f"{what}: wanted {least} to {most}, came {came}")
 
     def set_up(self, clients, ports=1, control=True, interval=30):
-        """Settings of so many clients and ports, the clients in equal parts, with a control endpoint where one is
-        wanted: the clients, which aren't connected yet, and the ports' addresses, at which nobody listens."""
+        """Settings of so many clients and ports, the clients in equal parts, or one for each of the first ports, with a
+        control endpoint where one is wanted: the clients, which aren't connected yet, and the ports' addresses, at which
+        nobody listens."""
         listens, markets, (at,) = self.addresses.free(clients), self.addresses.free(ports), self.addresses.free(1)
         text = 'comp = "GATE"\n'
         if control:
             text += f'[day]\nlinger = 2\n[control]\nlisten = "{self.host}:{at}"\ntoken = "{TOKEN}"\n'
         text += "".join(PORT.format(n + 1, self.host, it) for n, it in enumerate(markets))
-        each = clients // ports
+        each = max(1, clients // ports)
         text += "".join(CLIENT.format(n + 1, self.host, it, n // each + 1) for n, it in enumerate(listens))
         self.settings.write_text(text)
         return [Client(b"C%d" % (n + 1), self.host, it, interval) for n, it in enumerate(listens)], markets
@@ -114,9 +115,12 @@ class Stage:
         self.markets.append(it)
         return it
 
-    def gateway(self, *words, errors=None):
-        """A gateway by the settings that starts now: `serve`, or `run` with its words."""
+    def gateway(self, *words, errors=None, limits=None):
+        """A gateway by the settings that starts now: `serve`, or `run` with its words; behind what a shell does before,
+        as to set limits."""
         words = [self.program, *words, "--settings", str(self.settings)]
+        if limits:
+            words = ["sh", "-c", f'{limits} && exec "$@"', "sh", *words]
         self.gateways.append(Gateway(words, self.folder, errors))
         return self.gateways[-1]
 

@@ -60,13 +60,25 @@ def answered(client, number):
 def a_demonstration_that_is_not_finished(stage):
     """a demonstration whose market fills nothing says so after ten seconds, with status 1 and no audit"""
     begin = time.monotonic()
-    ran = subprocess.run([sys.executable, "-m", "stress.gate_days.held_demo", stage.program], capture_output=True,
-                         text=True, timeout=PATIENCE, check=False)
-    if ran.returncode == NO_TRACE:
-        raise LeftOut(ran.stderr.strip())
-    told = [line for line in ran.stderr.splitlines() if " orders wait, since " not in line]
-    stage.same("what it comes to", (1, "", ["demo: not finished"]), (ran.returncode, ran.stdout, told))
+    stage.same("what it comes to", (1, "", ["demo: not finished"]), met_by_a_stranger(stage, "market"))
     stage.within("seconds", 9.9, time.monotonic() - begin, PATIENCE)
 
 
-STEPS_OF_TELLING = (a_demonstration_that_is_not_finished, lines_that_nobody_reads, a_text_of_two_lines)
+def a_demonstration_with_a_fault(stage):
+    """a demonstration of which the first client's link has a fault, and the port's none, tells that fault"""
+    stage.same("what it comes to", (1, "", ["gateway: link fault 3"]), met_by_a_stranger(stage, "client"))
+
+
+def met_by_a_stranger(stage, listener):
+    """What a demonstration comes to with a stranger at a listener: status, standard output and lines on standard
+    error."""
+    ran = subprocess.run([sys.executable, "-m", "stress.gate_days.held_demo", stage.program, listener],
+                         capture_output=True, text=True, timeout=PATIENCE, check=False)
+    if ran.returncode == NO_TRACE:
+        raise LeftOut(ran.stderr.strip())
+    told = [line for line in ran.stderr.splitlines() if " orders wait, since " not in line]
+    return ran.returncode, ran.stdout, told
+
+
+STEPS_OF_TELLING = (a_demonstration_that_is_not_finished, lines_that_nobody_reads, a_demonstration_with_a_fault,
+                    a_text_of_two_lines)

@@ -1,4 +1,2 @@
 mod Starting
-mod Rounding
-mod Ahead
 pub mod Sent

@@ -1,52 +1,15 @@
 -- What the threads share of a desk may be shared where its hasher may be sent.
 use denote.RattleType.{RattleType}
-use denote.Param.Send.{IsSend, IsSync, sendable, view_send}
-use denote.Param.SendFields.{declared_send}
+use denote.Param.Send.{IsSend, IsSync, sendable}
 use Rattle.std.specs.declared.hash.Hasher as Hasher
 use Rattle.std.specs.declared.hash.BuildHasher as BuildHasher
 use Rattle.std.proofs.Crossing.{crosses}
-use Rattle.desk_ends.proofs.Sent.{seat_send, way_send}
 pub use Rattle.desk_ends.proofs.Sent.{inlet_send, outlet_send}
 use Rattle.desk_ends.specs.declared.name.DeskName as DeskName
-use Rattle.desk_steps.specs.desk_side.contracts.side.Side as Side
-use Rattle.desk_steps.proofs.Sent.{recorded_send}
-use Rattle.host_log.specs.contracts.host_file.HostFile as HostFile
-use Rattle.host_log.specs.contracts.host_file.HostFileLogFile as HostFileLogFile
-use Rattle.turn_log.specs.contracts.log.TurnLog as TurnLog
-use Rattle.desk.specs.contracts.desk_value.Desk as Desk
+use Rattle.desk_value.proofs.Sent.{desk_send}
 use Rattle.desk.specs.contracts.shared.Shared as Shared
-
-host_file_send : IsSend HostFile.the_row
-host_file_send = declared_send HostFile.the_type (
-  search (sendable, crosses) depth 60,
-  (
-    search (sendable, crosses) depth 60,
-    (
-      search (sendable, crosses) depth 60,
-      (search sendable, (search sendable, (search (sendable, crosses) depth 100 fits 500000, tt))),
-    ),
-  ),
-)
-
-turn_log_send : IsSend (TurnLog.the_row HostFile.the_row HostFileLogFile.TheImpl.ghosts)
-turn_log_send = search (host_file_send, sendable, crosses) depth 100 fits 500000
-
-side_send : IsSend Side.the_row
-side_send = search (seat_send, way_send, sendable, crosses) depth 100 fits 500000
 
 module _ (K S T : RattleType) (k : DeskName.Ghosts K.Denot) where
   module _ (g : BuildHasher.Ghosts S.Denot T.Denot) (h : Hasher.Ghosts T.Denot) (s : IsSend S) where
-    desk_send : IsSend (Desk.the_row K S T k g h)
-    desk_send = view_send _ _ _ _ _ (declared_send (Desk.TheInside.the_type K S T k g h) (
-      recorded_send S T g h s,
-      (
-        side_send,
-        (
-          search (turn_log_send, sendable, crosses) depth 40,
-          (search (sendable, crosses) depth 40, tt),
-        ),
-      ),
-    ))
-
     pub shared_sync : IsSync (Shared.the_row K S T k g h)
     shared_sync = search (desk_send, sendable, crosses) depth 100 fits 500000

@@ -1,5 +1,5 @@
-pub mod Ahead
 pub mod Offered
+pub use Rattle.desk_value.specs.Ahead
 pub use Rattle.desk_ends.specs.Rings
 pub use Rattle.desk_steps.specs.Agreeing
 pub use Rattle.desk_steps.specs.Settling

@@ -5,7 +5,6 @@
 //! type that lies under the lock: see `Desk`.
 #![tactic(auto)]
 
-mod desk_value;
 mod opening;
 mod shared;
 mod told_outlets;

@@ -3,11 +3,11 @@
 ghost use Rattle.std.specs.Prelude.{◌≡◌, ℕ, [], Some, length, slice_get, IfOk};
 ghost use Rattle.desk_ends.specs.Rings.{Putting, Taking};
 
-use crate::desk_value::Desk;
 use crate::shared::Shared;
 use desk_ends::{DeskName, Inlet, Outlet};
 use desk_rings::{EventRing, ToldRing, inlets_of, outlets_of};
 use desk_steps::{RecordedCore, Settings, Side, open_side};
+use desk_value::Desk;
 use std::alloc::{AllocError, Global};
 use std::collections::VecDeque;
 use std::hash::{BuildHasher, BuildHasherDefault, FoldHasher};

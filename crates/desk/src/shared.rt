@@ -4,10 +4,10 @@ ghost use Rattle.std.specs.Prelude.{◌≡◌, List};
 ghost use Rattle.desk_ends.specs.Rings.{Done};
 ghost use Rattle.desk_steps.specs.Settling.{AreReleased};
 
-use crate::desk_value::{Closed, Desk};
 use crate::told_outlets::{ToldOutlets, WriteTold};
 use desk_ends::{DeskName, Finished};
 use desk_steps::{History, PortFault, Status, Turned};
+use desk_value::{Closed, Desk};
 use fix_fields::Fields;
 use fix_session::LogonFault;
 use gate_events::{ClientNumber, Event};
@@ -74,7 +74,7 @@ impl<K: DeskName, S: BuildHasher + Drop> Shared<K, S> {
     ghost use Rattle.desk_steps.specs.gate_journal.Kept.{turns};
     ghost use Rattle.desk_steps.specs.Agreeing.{AreNamed};
     ghost use Rattle.desk_steps.specs.Settling.{AreSettled};
-    ghost use Rattle.desk.specs.Ahead.{ToldIsKept};
+    ghost use Rattle.desk_value.specs.Ahead.{ToldIsKept};
     ghost use Rattle.host_log.specs.Seen.{host_may_leave, host_seen};
     ghost use Rattle.turn_log.specs.Kept.{HasAll};
 

@@ -12,7 +12,8 @@ use Rattle.gate_workers.specs.declared.link.Link.{Link}
 use Rattle.gate_workers.specs.declared.stepped.Stepped.{Stepped}
 use Rattle.gate_workers.specs.declared.stepped.Stepped.TheVariants.{Taken, Nothing, Over, NoLink}
 use Rattle.std.proofs.Math.Logic.{∥∥₁_map}
-use Rattle.gate_workers.specs.Pens.{Ends, IsWritten, LinksOver, PenKept, SameLink, StepsPen, WasWritten, WritesSoFar}
+use Rattle.gate_workers.specs.Pens.{Ends, IsAllWritten, IsWritten, LinksOver, NothingHeld, PenKept, SameLink, StepsPen}
+use Rattle.gate_workers.specs.Pens.{WasWritten, WritesSoFar}
 use Rattle.gate_workers.proofs.SoFar.{so_far_none}
 
 -- before the first link
@@ -50,6 +51,12 @@ over_let_go n x y outs some e (end ∷ ends, count, (between, over, before, link
 )
 
 module _ {W G : Type 0} (contents : W → Option (List ℕ)) (was_taken : G → List (List LinkOut)) where
+  -- nothing of a link is held
+  pub all_written : (links : ℕ) (o : Option (Link W G)) (gate : G) → ∥ PenKept contents was_taken links o gate ∥₁
+      → NothingHeld o → ∥ IsAllWritten contents was_taken ∥₁
+  all_written links None gate kept nothing = absurd nothing
+  all_written links (Some link) gate kept nothing = ∥∥₁_map kept (λ k. (links, link, gate, k, nothing))
+
   -- a link is opened
   pub kept_opened : (n m : ℕ) (gate : G) (link : Link W G) → m ≡ n + 1 → link.gate_then.value ≡ gate
       → contents link.stream ≡ contents link.stream_then.value

@@ -63,6 +63,12 @@ abbrev pub NothingHeld : {W G : Type 0} → Option (Link W G) → Type 0
 NothingHeld None = ⊥
 NothingHeld (Some link) = (unwritten link.writer ≡ []) × (link.writer.is_closing ≡ false)
 
+-- of a link all that was taken is on its stream, and none of it closes it
+abbrev pub IsAllWritten : {W G : Type 0} → (W → Option (List ℕ)) → (G → List (List LinkOut)) → Type 0
+IsAllWritten {W = W} {G = G} contents was_taken =
+    (links : ℕ) × (link : Link W G) × (gate : G) × PenKept contents was_taken links (Some link) gate
+    × NothingHeld (Some link)
+
 -- a link that is over was written: this came back of it
 abbrev pub Ends : {W G : Type 0} → (W → Option (List ℕ)) → (G → List (List LinkOut)) → (links : ℕ)
     → (end : Result WriterEnd LinkFault) → (stream : W) → (old new : Option (Link W G)) → (gate : G) → Type 0

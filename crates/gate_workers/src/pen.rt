@@ -1,8 +1,8 @@
 //! A writer that several threads share.
 
-ghost use Rattle.std.specs.Prelude.{◌≡◌, ◌≤◌, [], IfOk, IfErr, IfSome};
+ghost use Rattle.std.specs.Prelude.{◌≡◌, ◌≤◌, [], true, IfOk, IfErr, IfSome};
 ghost use Rattle.gate_workers.specs.WritersWork.{LineWritten};
-ghost use Rattle.gate_workers.specs.Pens.{IsWritten, WasWritten};
+ghost use Rattle.gate_workers.specs.Pens.{IsAllWritten, IsWritten, WasWritten};
 
 use crate::clock::Clock;
 use crate::stepped::Stepped;
@@ -63,7 +63,9 @@ impl<W: Prompt + Drop, G: Gate + Drop> Pen<W, G> {
     /// Writes what is queued for the link by one prompt write, if nobody else holds the lock. Waits for nothing but the
     /// stream, as long as a prompt write does. `true` if nothing is left; else the line's writer has to be woken, and
     /// goes on with it.
-    pub fn write(&self, alloc: Global) -> bool {
+    pub fn write(&self, alloc: Global) -> bool
+        ensures all { result ≡ true → ∥ IsAllWritten W.contents G.was_taken ∥₁ }
+    {
         match self.work.try_lock() {
             Some(mut work) => work.write(alloc),
             None => false,

@@ -41,7 +41,7 @@ impl<K: DeskName, S: BuildHasher + Drop> Drop for Desk<K, S> {
 
 impl<K: DeskName, S: BuildHasher + Drop> Model for Desk<K, S> {
     ghost use Rattle.desk_steps.specs.Agreeing.{Agrees, DeskState};
-    ghost use Rattle.desk.specs.Ahead.{KeepsAhead};
+    ghost use Rattle.desk_value.specs.Ahead.{KeepsAhead};
 
     ghost Value = { DeskState };
 
@@ -63,7 +63,7 @@ pub struct Closed {
 
 impl<K: DeskName, S: BuildHasher + Drop> Desk<K, S> {
     ghost use Rattle.std.specs.Prelude.{◌≡◌, IfOk, List, MatchOption, OnOk, OnErr};
-    ghost use Rattle.desk.specs.Ahead.{ToldIsKept};
+    ghost use Rattle.desk_value.specs.Ahead.{ToldIsKept};
     ghost use Rattle.same_days.specs.Same.{IsOtherAt, IsSameDay};
     ghost use Rattle.gate_law.specs.After.{lists};
     ghost use Rattle.gate_law.specs.Holds.{Holds};
@@ -79,7 +79,7 @@ impl<K: DeskName, S: BuildHasher + Drop> Desk<K, S> {
     ghost use Rattle.turn_log.specs.Kept.{HasAll};
 
     /// A desk of parts that agree.
-    pub(crate) fn new(recorded: RecordedCore<S>, side: Side) -> Desk<K, S>
+    pub fn new(recorded: RecordedCore<S>, side: Side) -> Desk<K, S>
         requires agree { Agrees K.inlets K.outlets (record { recorded = recorded; side = side }) }
         ensures { result ≡ record { recorded = recorded; side = side } }
     {
@@ -93,7 +93,7 @@ impl<K: DeskName, S: BuildHasher + Drop> Desk<K, S> {
 
     /// From now on what is stepped is written into this log before anybody is told: the log has all of the history so
     /// far. `AllocError` gives the log up.
-    pub(crate) fn begin_journal(&mut self, log: DayLog<HostFile>) -> Result<(), AllocError>
+    fn begin_journal(&mut self, log: DayLog<HostFile>) -> Result<(), AllocError>
         requires has { HasAll host_seen host_may_leave self.old.recorded.kept.pages log.file }
         ensures recorded { self.new.recorded ≡ self.old.recorded }
     {
@@ -105,7 +105,7 @@ impl<K: DeskName, S: BuildHasher + Drop> Desk<K, S> {
     /// Has all that was stepped in the journal, durably, and then lets out what it told. Where there is none it does
     /// nothing. `Failed` where the journal's file fails, and from then on: nobody is told anything any more. `NoMemory`
     /// leaves all as it was.
-    pub(crate) fn keep(&mut self, alloc: Global) -> Result<(), LogFault>
+    pub fn keep(&mut self, alloc: Global) -> Result<(), LogFault>
         ensures recorded { self.new.recorded ≡ self.old.recorded }
         ensures released { (finished : List Done) → AreReleased finished self.old.side.ways
             → AreReleased finished self.new.side.ways }
@@ -119,12 +119,12 @@ impl<K: DeskName, S: BuildHasher + Drop> Desk<K, S> {
     }
 
     /// Whether it has a journal.
-    pub(crate) fn has_journal(&self) -> bool {
+    pub fn has_journal(&self) -> bool {
         self.journal.is_some()
     }
 
     /// Ends the journal, where there is one: it has all, and its end.
-    pub(crate) fn end_journal(&mut self) -> Result<(), LogFault>
+    pub fn end_journal(&mut self) -> Result<(), LogFault>
         ensures { self.new ≡ self.old }
     {
         match &mut self.journal {
@@ -135,11 +135,7 @@ impl<K: DeskName, S: BuildHasher + Drop> Desk<K, S> {
 
     /// Goes on with a journal of this day, as `begin_journal` does, where the history has just its events and batches.
     /// Else nothing is done, and it gives how many batches are the same before the first that differs.
-    pub(crate) fn go_on(
-        &mut self,
-        log: DayLog<HostFile>,
-        day: &History,
-    ) -> Result<Option<u64>, AllocError>
+    pub fn go_on(&mut self, log: DayLog<HostFile>, day: &History) -> Result<Option<u64>, AllocError>
         requires has { HasAll host_seen host_may_leave day.now.pages log.file }
         ensures recorded { self.new.recorded ≡ self.old.recorded }
         ensures same { IfOk result (λ other. MatchOption other (IsSameDay self.old.recorded.kept day.now)
@@ -165,7 +161,7 @@ impl<K: DeskName, S: BuildHasher + Drop> Desk<K, S> {
     }
 
     /// The outlets to which something was told since the last call that isn't to wait: a bit for each, by position.
-    pub(crate) fn take_rung(&mut self) -> u128
+    pub fn take_rung(&mut self) -> u128
         ensures { self.new ≡ self.old }
     {
         self.side.take_rung()
@@ -173,7 +169,7 @@ impl<K: DeskName, S: BuildHasher + Drop> Desk<K, S> {
 
     /// The outlets to which something was told since the last call that may wait, and nothing since that isn't to: a
     /// bit for each, by position.
-    pub(crate) fn take_waiting(&mut self) -> u128
+    pub fn take_waiting(&mut self) -> u128
         ensures { self.new ≡ self.old }
     {
         self.side.take_waiting()
@@ -223,7 +219,7 @@ impl<K: DeskName, S: BuildHasher + Drop> Desk<K, S> {
     ///
     /// No outlet is waited for: a list that finds no room stands in the history alone. `AllocError` leaves the steps
     /// before it standing, and the call may be made again.
-    pub(crate) fn settle(
+    pub fn settle(
         &mut self,
         alloc: Global,
         finished: &mut Vec<Finished<K>>,
@@ -237,7 +233,7 @@ impl<K: DeskName, S: BuildHasher + Drop> Desk<K, S> {
     }
 
     /// Ends the desk. All that is promised holds of its history, which has no events but those of the inlets' sources.
-    pub(crate) fn close(self, lost: Option<LogFault>) -> Closed
+    pub fn close(self, lost: Option<LogFault>) -> Closed
         ensures history { result.history ≡ self.recorded.kept }
         ensures settings { result.settings ≡ self.recorded.settings }
         ensures holds { Holds result.settings (turns result.history) }

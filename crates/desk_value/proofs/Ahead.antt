@@ -22,7 +22,7 @@ use Rattle.host_log.specs.declared.host_file.HostFile.{HostFile}
 use Rattle.host_log.specs.Seen.{host_may_leave, host_seen}
 use Rattle.turn_log.specs.Kept.{HasAll, HasDay, StandsAt, TurnLogState}
 use Rattle.turn_log.proofs.Keeping.{all-has}
-use Rattle.desk.specs.Ahead.{AreToldFrom, IsWrittenAhead, KeepsAhead, ToldIsKept}
+use Rattle.desk_value.specs.Ahead.{AreToldFrom, IsWrittenAhead, KeepsAhead, ToldIsKept}
 
 -- ---- steps
 

@@ -1,5 +1,5 @@
-use Rattle.desk.proofs.Ahead.{ahead-on}
-use Rattle.desk.proofs.desk_value.Desk.settle.Goals as goal
+use Rattle.desk_value.proofs.Ahead.{ahead-on}
+use Rattle.desk_value.proofs.value.Desk.settle.Goals as goal
 
 pub invariant_of-self : goal.invariant_of-self
 invariant_of-self g c = (

@@ -5,8 +5,8 @@ use Rattle.desk_steps.proofs.Keeping.{ways-agree}
 use Rattle.host_log.specs.Seen.{host_may_leave, host_seen}
 use Rattle.host_log.specs.declared.host_file.HostFile.{HostFile}
 use Rattle.turn_log.specs.Kept.{HasAll, HasDay, StandsAt}
-use Rattle.desk.proofs.Ahead.{begun-day, may-stage-ahead, staged-ahead}
-use Rattle.desk.proofs.desk_value.Desk.begin_journal.Goals as goal
+use Rattle.desk_value.proofs.Ahead.{begun-day, may-stage-ahead, staged-ahead}
+use Rattle.desk_value.proofs.value.Desk.begin_journal.Goals as goal
 
 pub invariant_of-self : goal.invariant_of-self
 invariant_of-self g c = (

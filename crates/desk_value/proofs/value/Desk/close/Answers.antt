@@ -2,8 +2,8 @@ use Rattle.std.proofs.Common.{sym, subst}
 use Rattle.desk_steps.specs.gate_journal.Kept.{Kept}
 use Rattle.desk_steps.specs.Agreeing.{AreNamed, DeskState}
 use Rattle.desk_steps.specs.Settling.{AreReleased}
-use Rattle.desk.proofs.Ahead.{kept-tells}
-use Rattle.desk.proofs.desk_value.Desk.close.Goals as goal
+use Rattle.desk_value.proofs.Ahead.{kept-tells}
+use Rattle.desk_value.proofs.value.Desk.close.Goals as goal
 
 pub returns-clause-named : goal.returns-clause-named
 returns-clause-named g c = subst (λ (z : Kept). AreNamed g.K.DeskName.inlets z.events)

@@ -1,7 +1,7 @@
-use Rattle.desk.proofs.Ahead.{ahead-on}
-use Rattle.desk.proofs.Rounding.{few-seats, round-agrees}
+use Rattle.desk_value.proofs.Ahead.{ahead-on}
+use Rattle.desk_value.proofs.Rounding.{few-seats, round-agrees}
 use Rattle.desk_steps.proofs.Onward.{round-on}
-use Rattle.desk.proofs.desk_value.Desk.round.Goals as goal
+use Rattle.desk_value.proofs.value.Desk.round.Goals as goal
 
 pub round-requires : goal.round-requires
 round-requires g c = record {

@@ -4,9 +4,9 @@ use Rattle.desk_steps.specs.gate_journal.Kept.{Kept, kept_in}
 use Rattle.desk_steps.proofs.Keeping.{ways-agree}
 use Rattle.host_log.specs.Seen.{host_may_leave, host_seen}
 use Rattle.turn_log.specs.Kept.{HasDay}
-use Rattle.desk.specs.Ahead.{IsWrittenAhead}
-use Rattle.desk.proofs.Ahead.{released-ahead}
-use Rattle.desk.proofs.desk_value.Desk.keep.Goals as goal
+use Rattle.desk_value.specs.Ahead.{IsWrittenAhead}
+use Rattle.desk_value.proofs.Ahead.{released-ahead}
+use Rattle.desk_value.proofs.value.Desk.keep.Goals as goal
 
 pub invariant_of-self-2 : goal.invariant_of-self-2
 invariant_of-self-2 g c =

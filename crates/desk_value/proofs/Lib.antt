@@ -1,0 +1,3 @@
+mod Ahead
+mod Rounding
+pub mod Sent
