@@ -20,6 +20,7 @@ use desks::left_by_both;
 use gate_lines::Flags;
 use scripts::run_again;
 use sections::Cases;
+use std::io::Write;
 use std::process::ExitCode;
 use std::sync::Wait;
 use std::thread::Threads;
