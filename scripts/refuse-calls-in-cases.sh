@@ -3,10 +3,10 @@
 #
 #     scripts/refuse-calls-in-cases.sh [PROGRAM [INPUT]]
 #
-# PROGRAM is session_cases, which is meant where none is named, link_cases, gate_script, gate_cases, which undoes each step of the script INPUT and makes it
-# again, ring, which is gate_cases that fills a client's ring, or gateway, which audits the script INPUT.
+# PROGRAM is sessions, which is meant where none is named and is wire_cases with its section of sessions, wire_cases, link_cases, gate_script, gate_cases,
+# which undoes each step of the script INPUT and makes it again, ring, which is gate_cases that fills a client's ring, or gateway, which audits the script INPUT.
 # From the environment KIND says which calls: with `memory`, which is meant where none is said, run N of the program refuses its Nth malloc or realloc, and no
-# other; with `io` its Nth read or write fails; with `short` its Nth read or write of several bytes moves one of them. session_cases makes a session's
+# other; with `io` its Nth read or write fails; with `short` its Nth read or write of several bytes moves one of them. sessions makes a session's
 # call again where it answers that memory is wanting, gate_cases a step of the whole core, ring a turn of the desk and its end. So a run may
 #
 #   end as without a refusal        what was wanting was asked again, or wasn't needed: "the same"; with `short` each run has to
@@ -21,11 +21,12 @@
 set -euo pipefail
 
 repository=$(dirname "$(cd "$(dirname "${BASH_SOURCE[0]}")" && pwd)")
-name=${1:-session_cases}
+name=${1:-sessions}
 crate=$name
-if [ "$name" = ring ]; then
-    crate=gate_cases
-fi
+case $name in
+    sessions) crate=wire_cases ;;
+    ring) crate=gate_cases ;;
+esac
 program=$repository/crates/$crate/out/$crate
 words=()
 cases=${2:-$repository/crates/$crate/stdin}
@@ -49,7 +50,11 @@ trap 'exit 130' INT TERM
 
 if [ "$name" = ring ] && [ -z "${2:-}" ]; then
     cases=$work/ring
-    printf '== ring\nfill\n' > "$cases"
+    sed -n '/^== desk$/,/^end$/p' "$repository/crates/gate_cases/stdin" > "$cases"
+fi
+if [ "$name" = sessions ] && [ -z "${2:-}" ]; then
+    cases=$work/sessions
+    sed -n '/^== sessions$/,/^== ports$/p' "$repository/crates/wire_cases/stdin" > "$cases"
 fi
 if [ "$name" = gate_cases ]; then
     words=(again)

@@ -54,12 +54,28 @@ fn value_of(digit: u8) -> Option<u8> {
 pub fn shown(alloc: Global, bytes: &[u8]) -> Result<String, AllocError> {
     let mut text = String::new(alloc);
     for byte in bytes {
+        show(&mut text, *byte)?;
+    }
+    Ok(text)
+}
+
+/// Lines of bytes, each as it is typed.
+pub fn shown_lines(alloc: Global, lines: &[u8]) -> Result<String, AllocError> {
+    let mut text = String::new(alloc);
+    for byte in lines {
         match *byte {
-            SOH => text.push('|')?,
-            b'\\' | b'|' => write!(text, "\\{byte:02x}")?,
-            b' '..=b'~' => text.push(char::from(*byte))?,
-            _ => write!(text, "\\{byte:02x}")?,
+            b'\n' => text.push('\n')?,
+            byte => show(&mut text, byte)?,
         }
     }
     Ok(text)
+}
+
+/// Adds a byte as it is typed.
+fn show(text: &mut String, byte: u8) -> Result<(), AllocError> {
+    match byte {
+        SOH => text.push('|'),
+        b' '..=b'~' if byte != b'\\' && byte != b'|' => text.push(char::from(byte)),
+        _ => write!(text, "\\{byte:02x}"),
+    }
 }

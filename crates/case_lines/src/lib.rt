@@ -1,13 +1,13 @@
-//! What the programs of cases share: typed bytes and words of a line, calls with their answers, cases with their
-//! verdicts. `README.md` has the lines.
+//! What the programs of cases share: the lines of an input, each with what it shows; typed bytes and words of a line;
+//! cases with their verdicts. `README.md` has the lines.
 #![tactic(auto)]
 
-mod answers;
 mod bytes;
+mod lines;
 mod verdicts;
 mod words;
 
-pub use answers::{Answers, answer_lines};
 pub use bytes::{bytes_of, shown};
-pub use verdicts::{Conversation, judge_cases};
+pub use lines::{Lines, show_answer, take_lines};
+pub use verdicts::{Conversation, Judged};
 pub use words::{first_word, number_of};

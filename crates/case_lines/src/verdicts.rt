@@ -1,9 +1,10 @@
 //! Cases of conversations, each with its verdict.
 
-use crate::bytes::{bytes_of, shown};
+use crate::bytes::{bytes_of, shown_lines};
+use crate::lines::Lines;
 use crate::words::first_word;
 use std::alloc::{AllocError, Global};
-use std::io::{self, BufRead, BufReader, Read, Write};
+use std::io;
 
 /// What the steps of a case are said to.
 pub trait Conversation {
@@ -15,70 +16,76 @@ pub trait Conversation {
     fn step(&mut self, alloc: Global, line: &str, shown: &mut Vec<u8>) -> Result<bool, AllocError>;
 }
 
-/// Writes a verdict for each case of the input.
-pub fn judge_cases<C: Conversation, R: Read + Drop, W: Write>(
-    alloc: Global,
-    conversation: &mut C,
-    input: R,
-    output: &mut W,
-) -> io::Result<()> {
-    let mut case = Case::new(alloc);
-    let mut first = Vec::new(alloc);
-    for line in BufReader::new(alloc, input)?.lines(alloc) {
-        let line = line?;
-        take_line(
-            alloc,
-            conversation,
-            &mut case,
-            &mut first,
-            line.as_str(),
-            output,
-        )?;
-    }
-    case.end(alloc, output)
+/// Cases of a conversation, of which each is shown with its verdict.
+#[derive(Drop)]
+pub struct Judged<C> {
+    conversation: C,
+    case: Case,
+    /// The lines with which each case begins.
+    first: String,
 }
 
-/// Does what a line says. `first` has the lines with which each case begins.
-fn take_line<C: Conversation, W: Write>(
+impl<C: Conversation> Judged<C> {
+    /// No case yet. Takes no memory.
+    pub fn new(alloc: Global, conversation: C) -> Judged<C> {
+        Judged {
+            conversation,
+            case: Case::new(alloc),
+            first: String::new(alloc),
+        }
+    }
+}
+
+impl<C: Conversation> Lines for Judged<C> {
+    fn take(&mut self, alloc: Global, line: &str, shown: &mut Vec<u8>) -> io::Result<()> {
+        let Judged {
+            conversation,
+            case,
+            first,
+        } = self;
+        Ok(take_line(alloc, conversation, case, first, line, shown)?)
+    }
+
+    fn end(&mut self, alloc: Global, shown: &mut Vec<u8>) -> Result<(), AllocError> {
+        self.case.end(alloc, shown)
+    }
+}
+
+/// Does what a line says.
+fn take_line<C: Conversation>(
     alloc: Global,
     conversation: &mut C,
     case: &mut Case,
-    first: &mut Vec<String>,
-    text: &str,
-    output: &mut W,
-) -> io::Result<()> {
-    if text.is_empty() || text.starts_with('#') {
-        return Ok(());
-    }
-    let (word, rest) = first_word(text);
+    first: &mut String,
+    line: &str,
+    shown: &mut Vec<u8>,
+) -> Result<(), AllocError> {
+    let (word, rest) = first_word(line);
     match word {
         "case" => {
-            case.end(alloc, output)?;
-            case.begin(alloc, rest)?;
+            case.begin(alloc, rest, shown)?;
             conversation.begin(alloc)?;
-            begin_as_each(alloc, conversation, case, first.as_slice(), output)
+            take_first(alloc, conversation, case, first.as_str(), shown)
         }
         "first" => {
-            case.end(alloc, output)?;
             first.clear();
-            case.begin_none();
-            Ok(())
+            case.begin_none(alloc, shown)
         }
-        _ if case.is_none => Ok(first.push(String::from_str(alloc, text)?)?),
-        _ => case.take(alloc, conversation, text, output),
+        _ if case.is_none => writeln!(first, "{line}"),
+        _ => case.take(alloc, conversation, line, shown),
     }
 }
 
 /// Takes the lines with which each case begins.
-fn begin_as_each<C: Conversation, W: Write>(
+fn take_first<C: Conversation>(
     alloc: Global,
     conversation: &mut C,
     case: &mut Case,
-    first: &[String],
-    output: &mut W,
-) -> io::Result<()> {
-    for text in first {
-        case.take(alloc, conversation, text.as_str(), output)?;
+    first: &str,
+    shown: &mut Vec<u8>,
+) -> Result<(), AllocError> {
+    for line in first.lines() {
+        case.take(alloc, conversation, line, shown)?;
     }
     Ok(())
 }
@@ -118,68 +125,72 @@ impl Case {
         }
     }
 
-    /// A case of this name begins.
-    fn begin(&mut self, alloc: Global, name: &str) -> Result<(), AllocError> {
-        self.name = String::from_str(alloc, name)?;
+    /// The case ends, and one of this name begins.
+    fn begin(&mut self, alloc: Global, name: &str, shown: &mut Vec<u8>) -> Result<(), AllocError> {
+        self.end(alloc, shown)?;
+        self.name.push_str(name)
+    }
+
+    /// The case ends, and none is there until the next one begins.
+    fn begin_none(&mut self, alloc: Global, shown: &mut Vec<u8>) -> Result<(), AllocError> {
+        self.end(alloc, shown)?;
+        self.is_none = true;
+        Ok(())
+    }
+
+    /// The case, where there is one, ends, and is shown with whether all that it showed was wanted.
+    fn end(&mut self, alloc: Global, shown: &mut Vec<u8>) -> Result<(), AllocError> {
+        self.compare(alloc, shown)?;
+        if !self.name.as_str().is_empty() {
+            shown.extend_from_slice(self.name.as_bytes())?;
+            shown.extend_from_slice(verdict_of(self.is_right).as_bytes())?;
+        }
+        self.name.clear();
         self.is_none = false;
         self.is_right = true;
         Ok(())
     }
 
-    /// No case is there until the next one begins.
-    fn begin_none(&mut self) {
-        self.name.clear();
-        self.is_none = true;
-    }
-
-    /// Ends the case, and writes whether all that was shown was wanted.
-    fn end<W: Write>(&mut self, alloc: Global, output: &mut W) -> io::Result<()> {
-        self.compare(alloc, output)?;
-        if self.name.as_str().is_empty() {
-            return Ok(());
-        }
-        let verdict = if self.is_right { "right" } else { "WRONG" };
-        writeln!(output, "{}: {verdict}", self.name)
-    }
-
     /// Takes a line of the case: a step, or what the last one is to show.
-    fn take<C: Conversation, W: Write>(
+    fn take<C: Conversation>(
         &mut self,
         alloc: Global,
         conversation: &mut C,
-        text: &str,
-        output: &mut W,
-    ) -> io::Result<()> {
-        let (word, rest) = first_word(text);
-        let is_taken = if word == "->" {
-            self.want(alloc, rest)?
-        } else {
-            self.compare(alloc, output)?;
-            conversation.step(alloc, text, &mut self.shown)?
+        line: &str,
+        shown: &mut Vec<u8>,
+    ) -> Result<(), AllocError> {
+        let is_taken = match line.strip_prefix("-> ") {
+            Some(wanted) => self.want(alloc, wanted)?,
+            None => {
+                self.compare(alloc, shown)?;
+                conversation.step(alloc, line, &mut self.shown)?
+            }
         };
         if is_taken {
             return Ok(());
         }
         self.is_right = false;
-        writeln!(output, "not understood: {text}")
+        show_lines(alloc, "not understood", line.as_bytes(), shown)
     }
 
     /// Wants a line more of the last step; false where it isn't understood.
     fn want(&mut self, alloc: Global, line: &str) -> Result<bool, AllocError> {
-        let Some(bytes) = bytes_of(alloc, line)? else {
-            return Ok(false);
-        };
-        self.wanted.extend_from_slice(bytes.as_slice())?;
-        self.wanted.push(b'\n')?;
-        Ok(true)
+        match bytes_of(alloc, line)? {
+            Some(bytes) => {
+                self.wanted.extend_from_slice(bytes.as_slice())?;
+                self.wanted.push(b'\n')?;
+                Ok(true)
+            }
+            None => Ok(false),
+        }
     }
 
-    /// Compares what the last step showed with what was wanted of it, and writes both where they differ.
-    fn compare<W: Write>(&mut self, alloc: Global, output: &mut W) -> io::Result<()> {
+    /// Compares what the last step showed with what was wanted of it, and shows both where they differ.
+    fn compare(&mut self, alloc: Global, shown: &mut Vec<u8>) -> Result<(), AllocError> {
         if self.shown.as_slice() != self.wanted.as_slice() {
             self.is_right = false;
-            write_lines(alloc, "wanted", self.wanted.as_slice(), output)?;
-            write_lines(alloc, "shown", self.shown.as_slice(), output)?;
+            show_lines(alloc, "wanted", self.wanted.as_slice(), shown)?;
+            show_lines(alloc, "shown", self.shown.as_slice(), shown)?;
         }
         self.wanted.clear();
         self.shown.clear();
@@ -187,16 +198,18 @@ impl Case {
     }
 }
 
-/// Writes a word, and each of these lines as it is typed.
-fn write_lines<W: Write>(
+/// What stands behind the name of a case.
+fn verdict_of(is_right: bool) -> &'static str {
+    if is_right { ": right\n" } else { ": WRONG\n" }
+}
+
+/// Shows a word, and each of these lines as it is typed.
+fn show_lines(
     alloc: Global,
     word: &str,
     lines: &[u8],
-    output: &mut W,
-) -> io::Result<()> {
-    writeln!(output, "{word}:")?;
-    for line in lines.split(|byte| *byte == b'\n') {
-        writeln!(output, "{}", shown(alloc, line)?)?;
-    }
-    Ok(())
+    shown: &mut Vec<u8>,
+) -> Result<(), AllocError> {
+    let typed = shown_lines(alloc, lines)?;
+    shown.extend_from_slice(format!(in alloc; "{word}:\n{typed}\n")?.as_bytes())
 }

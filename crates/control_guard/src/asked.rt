@@ -1,7 +1,7 @@
 //! What may be asked for.
 
 /// What is shown.
-#[derive(Clone, Copy, Debug, PartialEq, Eq)]
+#[derive(Clone, Copy)]
 pub enum View {
     /// `/`: the page.
     Page,
@@ -12,7 +12,7 @@ pub enum View {
 }
 
 /// What is done.
-#[derive(Clone, Copy, Debug, PartialEq, Eq)]
+#[derive(Clone, Copy)]
 pub enum Act {
     /// The day is ended, once the market's answers were awaited for a while.
     End,
@@ -23,7 +23,7 @@ pub enum Act {
 }
 
 /// What a path asks for.
-#[derive(Clone, Copy, Debug, PartialEq, Eq)]
+#[derive(Clone, Copy)]
 pub enum Asked {
     Show(View),
     Do(Act),

@@ -1,7 +1,7 @@
 //! A request, and the rules that it is judged by.
 
 /// How something is asked.
-#[derive(Clone, Copy, Debug, PartialEq, Eq)]
+#[derive(Clone, Copy)]
 pub enum Method {
     Get,
     Post,

@@ -10,7 +10,7 @@ use crate::request::{Method, Request, Rules};
 use crate::secret::is_same_secret;
 
 /// Why a request is refused.
-#[derive(Clone, Copy, Debug, PartialEq, Eq)]
+#[derive(Clone, Copy, PartialEq, Eq)]
 pub enum Refusal {
     /// 403: its `Host` is none of the endpoint's own names, as of a page whose attacker's DNS gives this address.
     ForeignHost,
@@ -25,7 +25,7 @@ pub enum Refusal {
 }
 
 /// What becomes of a request.
-#[derive(Clone, Copy, Debug, PartialEq, Eq)]
+#[derive(Clone, Copy)]
 pub enum Verdict {
     /// This is done.
     Does(Act),

@@ -14,8 +14,8 @@ pub struct Here {
 }
 
 /// The event of a word, of the client or port of a number: `client_up`, `gone`, `client` with the text of a message
-/// from MsgType (35) on, `port_up`, `port_gone`, `port_packet` with its type and payload, `tick` of a port.
-/// `None` of anything else.
+/// from MsgType (35) on, `port_up`, `port_gone`, `port_packet` with its type and payload, `tick` of a port,
+/// `client_tick`. `None` of anything else.
 pub fn event_of(
     alloc: Global,
     word: &str,
@@ -82,6 +82,7 @@ fn told_of(word: &str, client: ClientNumber, number: u16, here: Here) -> Option<
         "port_up" => Some(Event::PortUp { port, link, at }),
         "port_gone" => Some(Event::PortGone { port, link, at }),
         "tick" => Some(Event::PortTick { port, at }),
+        "client_tick" => Some(Event::ClientTick { client, at }),
         _ => None,
     }
 }

@@ -1,28 +1,30 @@
 //! Runs cases of the gateway's core, scripts among them, and prints what comes of each: a verdict, or what it shows.
 //! `README.md` has what a line of the input may say. With a word on the command line each script is also run with lines
-//! of others between its own, and with each step undone and made again. With the word `again` alone standard input is
-//! one script, of which each step is undone and made again.
+//! of others between its own, and with each step undone and made again, and two threads use a desk. With the word
+//! `again` alone standard input is one script, of which each step is undone and made again.
 #![tactic(auto)]
 
 mod accounts;
 mod calls;
 mod days;
+mod desks;
 mod events;
 mod histories;
-mod ring;
 mod scripts;
 mod sections;
 mod streams;
 mod worlds;
 
+use case_lines::take_lines;
+use desks::left_by_both;
 use gate_lines::Flags;
-use ring::show_ring;
-use scripts::{Case, run_again};
-use sections::{Cases, Section};
-use std::io::{self, BufRead, BufReader, ErrorKind, Write};
+use scripts::run_again;
+use sections::Cases;
 use std::process::ExitCode;
 use std::sync::Wait;
-use std::{env, fs};
+use std::thread::Threads;
+use std::time::Clock;
+use std::{env, io};
 
 fn main(rt: HostRuntime) -> ExitCode {
     match run(&rt, &rt) {
@@ -47,7 +49,7 @@ enum Asked {
     Again,
 }
 
-fn run<R: Wait>(rt: &HostRuntime, waits: &R) -> io::Result<()> {
+fn run<R: Threads + Wait + Clock + Sync>(rt: &HostRuntime, waits: &R) -> io::Result<()> {
     match asked_by_words(rt)? {
         Asked::Cases => run_cases(rt, waits, false),
         Asked::InAllWays => run_cases(rt, waits, true),
@@ -78,69 +80,17 @@ fn run_numbered(rt: &HostRuntime) -> io::Result<()> {
     run_again(rt.alloc(), flags, &mut rt.reader(), &mut io::writer(rt))
 }
 
-/// Runs the cases of standard input.
-fn run_cases<R: Wait>(rt: &HostRuntime, waits: &R, is_mixed: bool) -> io::Result<()> {
-    let mut cases = Cases::new(rt.alloc(), is_mixed);
-    take_all(rt, waits, &mut cases)?;
-    let mut shown = Vec::new(rt.alloc());
-    cases.end(rt.alloc(), &mut shown)?;
-    io::writer(rt).write_all(shown.as_slice())
-}
-
-/// Does what the lines of standard input say.
-fn take_all<R: Wait>(rt: &HostRuntime, waits: &R, cases: &mut Cases) -> io::Result<()> {
+/// Runs the cases of standard input; where scripts are run in all ways, two threads at a desk behind them.
+fn run_cases<R: Threads + Wait + Clock + Sync>(
+    rt: &HostRuntime,
+    waits: &R,
+    is_mixed: bool,
+) -> io::Result<()> {
     let alloc = rt.alloc();
-    for line in BufReader::new(alloc, rt.reader())?.lines(alloc) {
-        let line = line?;
-        take_line(rt, waits, cases, line.as_str())?;
+    let mut cases = Cases::new(rt, waits, is_mixed);
+    take_lines(alloc, &mut cases, rt.reader(), &mut io::writer(rt))?;
+    if is_mixed {
+        io::writer(rt).write_all(left_by_both(waits, alloc)?.as_bytes())?;
     }
     Ok(())
-}
-
-/// Does what a line says, and prints what comes of it.
-fn take_line<R: Wait>(
-    rt: &HostRuntime,
-    waits: &R,
-    cases: &mut Cases,
-    line: &str,
-) -> io::Result<()> {
-    if line.is_empty() || line.starts_with('#') {
-        return Ok(());
-    }
-    let mut shown = Vec::new(rt.alloc());
-    take(rt, waits, cases, line, &mut shown)?;
-    io::writer(rt).write_all(shown.as_slice())
-}
-
-/// Does what a line says, and shows what comes of it.
-fn take<R: Wait>(
-    rt: &HostRuntime,
-    waits: &R,
-    cases: &mut Cases,
-    line: &str,
-    shown: &mut Vec<u8>,
-) -> io::Result<()> {
-    let alloc = rt.alloc();
-    if let Some(name) = line.strip_prefix("== ") {
-        return if cases.begin(alloc, name, shown)? {
-            Ok(())
-        } else {
-            Err(io::Error::from(ErrorKind::InvalidData))
-        };
-    }
-    match cases.section() {
-        Section::Examples => run_example(rt, line, shown),
-        Section::Ring => Ok(show_ring(waits, alloc, shown)?),
-        _ => cases.take(alloc, line, shown),
-    }
-}
-
-/// Runs an example, in all ways: the file of this name is a script, and has to print just what the file `NAME.stdout`
-/// says.
-fn run_example(rt: &HostRuntime, name: &str, shown: &mut Vec<u8>) -> io::Result<()> {
-    let alloc = rt.alloc();
-    let script = fs::read(rt, name)?;
-    let wanted = fs::read(rt, format!(in alloc; "{name}.stdout")?)?;
-    let example = Case::whole(alloc, name, script, wanted)?;
-    Ok(example.end(alloc, true, shown)?)
 }

@@ -7,3 +7,4 @@ mod said;
 
 pub use again::run_again;
 pub use case::Case;
+pub use said::push_said;

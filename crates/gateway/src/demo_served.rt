@@ -1,7 +1,7 @@
 //! The demonstration that goes on until it is told to end.
 
+use super::days::{AskedDay, have_day};
 use super::out_of_memory;
-use super::served::{AskedServe, serve_until_told};
 use gateway_demo::{DemoFault, ServedDemo, Traders, served_demo};
 use gateway_run::read;
 use gateway_serve::{bind_all, read_operator};
@@ -18,7 +18,7 @@ use std::time::Clock;
 /// A demonstration that is to be served: what its settings ask for, and where its market and clients are.
 #[derive(Drop)]
 pub(crate) struct AskedDemo {
-    asked: AskedServe<'static>,
+    asked: AskedDay,
     market: TcpListener,
     first: String,
     second: String,
@@ -48,7 +48,7 @@ pub(crate) fn asked_demo(rt: &HostRuntime) -> Result<AskedDemo, ExitCode> {
 }
 
 /// What these settings ask for, with all listeners bound, or the status where they can't be had.
-fn asked_by(rt: &HostRuntime, settings: &str) -> Result<AskedServe<'static>, ExitCode> {
+fn asked_by(rt: &HostRuntime, settings: &str) -> Result<AskedDay, ExitCode> {
     let Ok(file) = read(rt.alloc(), settings.as_bytes()) else {
         return Err(out_of_memory(rt));
     };
@@ -56,7 +56,12 @@ fn asked_by(rt: &HostRuntime, settings: &str) -> Result<AskedServe<'static>, Exi
         return Err(out_of_memory(rt));
     };
     match bind_all(rt, rt.alloc(), &file.listens, &operator.control) {
-        Ok(Some(bound)) => Ok(AskedServe::without_journal(file, operator, bound)),
+        Ok(Some(bound)) => Ok(AskedDay::Serve {
+            file,
+            journal: None,
+            operator,
+            bound,
+        }),
         Ok(None) => Err(ExitCode::from(2)),
         Err(_) => Err(out_of_memory(rt)),
     }
@@ -92,7 +97,7 @@ where
     } = demo;
     match Traders::start(rt, alloc, market, first, second) {
         Ok(traders) => {
-            let status = serve_until_told(rt, alloc, asked, faults);
+            let status = have_day(rt, alloc, asked, None, faults);
             traders.end(rt);
             status
         }

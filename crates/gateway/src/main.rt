@@ -5,36 +5,33 @@ ghost use Rattle.std.specs.Prelude.{◌≤◌};
 
 use day_export::{Format, export_day, format_of};
 use gateway_command::{Asked, Error, asked, is_version, links_of};
-use gateway_demo::{Choice, show_demo};
-use gateway_run::{
-    Day, DayJournal, RunFault, SettingsFault, SettingsFile, audit_day, end_day, read, run_settings,
-    tell,
-};
+use gateway_demo::show_demo;
+use gateway_run::{SettingsFault, SettingsFile, read};
 use journal_audit::{audit_file, audit_so_far, script_file};
 use journal_file::{DayFile, Ending, FileFault, PageFault, read_file};
 use script_command::{audit_script, tell_refusal};
 use std::alloc::Global;
-use std::fs::{File, Files};
 use std::hash::RandomState;
-use std::io::{self, BufWriter, ErrorKind, Read, Write};
+use std::io::{self, BufWriter, ErrorKind, Write};
 use std::net::{Net, TcpListener, TcpStream};
 use std::process::ExitCode;
 use std::random::RandomSource;
-use std::sync::{Arc, Wait};
+use std::sync::Wait;
 use std::thread::Threads;
-use std::time::{Clock, Duration};
+use std::time::Clock;
 use std::{env, fs};
-use stderr_queue::{LineQueue, Queued, start_writer};
 
+mod days;
 mod demo_served;
 mod journal;
 mod played;
 mod served;
 
+use days::{AskedDay, have_day};
 use demo_served::{asked_demo, serve_demo};
 use journal::journal_asked;
 use played::{asked_shape, play_world};
-use served::{asked_end, asked_serve, end_of_day, end_served, serve_until_told};
+use served::{asked_end, asked_serve, end_served};
 
 fn main(rt: HostRuntime) -> ExitCode {
     let words = match words_of(&rt) {
@@ -63,7 +60,7 @@ fn main(rt: HostRuntime) -> ExitCode {
                 },
             ),
         ) => match asked_run(&rt, settings, links, journal, sync) {
-            Ok(asked) => serve_file(&rt, rt.alloc(), asked, &mut rt.stderr()),
+            Ok(asked) => have_day(&rt, rt.alloc(), asked, journal, &mut rt.stderr()),
             Err(status) => status,
         },
         Ok(
@@ -75,12 +72,12 @@ fn main(rt: HostRuntime) -> ExitCode {
                 },
             ),
         ) => match asked_serve(&rt, settings, journal, sync) {
-            Ok(asked) => serve_until_told(&rt, rt.alloc(), asked, &mut rt.stderr()),
+            Ok(asked) => have_day(&rt, rt.alloc(), asked, journal, &mut rt.stderr()),
             Err(status) => status,
         },
         Ok(Some(Asked::End { settings, at_once })) => end_served(&rt, settings, at_once),
         Ok(Some(Asked::EndDay { journal, settings })) => match asked_end(&rt, settings, journal) {
-            Ok(asked) => end_of_day(&rt, rt.alloc(), asked, &mut rt.stderr()),
+            Ok(asked) => have_day(&rt, rt.alloc(), asked, Some(journal), &mut rt.stderr()),
             Err(status) => status,
         },
         Ok(Some(Asked::Export { journal, format })) => export_journal(&rt, journal, format),
@@ -258,124 +255,24 @@ fn refused_key(rt: &HostRuntime, key: &str) -> ExitCode {
     ExitCode::from(2)
 }
 
-/// A gateway that is to be run: its settings, how many links of each client are served, and where its day's journal
-/// goes.
-#[derive(Drop)]
-struct AskedRun<'a> {
-    file: SettingsFile,
-    links: u16,
-    journal: Option<DayJournal>,
-    /// Where the journal is.
-    path: Option<&'a str>,
-}
-
 /// What `run` asks for, or the status where it is refused. A journal's file is made, or is of a day that goes on.
-fn asked_run<'a>(
+fn asked_run(
     rt: &HostRuntime,
     settings: &str,
     links: Option<&str>,
-    path: Option<&'a str>,
+    path: Option<&str>,
     sync: Option<&str>,
-) -> Result<AskedRun<'a>, ExitCode> {
+) -> Result<AskedDay, ExitCode> {
     let Some(links) = links_of(links) else {
         return Err(refused(rt, "--links is a number from 1 to 1000"));
     };
     let file = settings_at(rt, settings)?;
     let journal = journal_asked(rt, path, sync)?;
-    Ok(AskedRun {
+    Ok(AskedDay::Run {
         file,
-        links,
         journal,
-        path,
+        links,
     })
-}
-
-/// Runs a gateway by its settings, and ends its day.
-fn serve_file<R, F: Write>(rt: &R, alloc: Global, asked: AskedRun<'_>, faults: &mut F) -> ExitCode
-where
-    R: Threads
-        + Wait
-        + Sync
-        + Clock
-        + Net<Listener = TcpListener, Stream = TcpStream>
-        + RandomSource
-        + Files<File = File>
-        + Print
-        + Eprint
-        + Copy
-        + Send
-        + Drop
-        + 'static,
-{
-    let Ok(hasher) = RandomState::new(rt) else {
-        return no_seed(faults);
-    };
-    let Ok(mut output) = BufWriter::new(alloc, io::writer(rt)) else {
-        let _ = writeln!(faults, "out of memory");
-        return ExitCode::from(1);
-    };
-    let lines = match lines_of(rt, alloc) {
-        Ok(lines) => lines,
-        Err(fault) => return ExitCode::from(tell(fault, faults)),
-    };
-    let AskedRun {
-        file,
-        links,
-        journal,
-        path,
-    } = asked;
-    let queued = Queued::new(*rt, &lines);
-    let ran = run_settings(&queued, alloc, hasher, file, u32::from(links), journal);
-    lines.end(rt);
-    let status = match ran {
-        Ok(day) => ended(rt, alloc, &day, path, &mut output, faults),
-        Err(fault) => tell(fault, faults),
-    };
-    ExitCode::from(status)
-}
-
-/// A queue for what is told while links are served, so that no reader of standard error holds up anybody.
-fn lines_of<R>(rt: &R, alloc: Global) -> Result<Arc<LineQueue>, RunFault>
-where
-    R: Threads + Wait + Clock + Eprint + Copy + Send + Drop + 'static,
-{
-    match start_writer(rt, alloc) {
-        Ok(Some(lines)) => Ok(lines),
-        Ok(None) => Err(RunFault::NoThread),
-        Err(_) => Err(RunFault::NoMemory),
-    }
-}
-
-/// Ends a day: writes its audit, and looks whether its journal has it, where there is one. The status is 0 where all
-/// orders agree and it has.
-fn ended<R: Files<File = File>, W: Write, F: Write>(
-    rt: &R,
-    alloc: Global,
-    day: &Day,
-    journal: Option<&str>,
-    output: &mut W,
-    faults: &mut F,
-) -> u8 {
-    let Some(path) = journal else {
-        return audit_day(alloc, day, output, faults);
-    };
-    match bytes_at(rt, alloc, path) {
-        Ok(file) => end_day(alloc, day, file.as_slice(), output, faults),
-        Err(_) => {
-            let audited = audit_day(alloc, day, output, faults);
-            let _ = writeln!(faults, "gateway: cannot read {path}");
-            audited.max(1)
-        }
-    }
-}
-
-/// The bytes of a file, all of it on the disk: also where syncing it was left for later.
-fn bytes_at<R: Files<File = File>>(rt: &R, alloc: Global, path: &str) -> io::Result<Vec<u8>> {
-    let mut file = File::open(rt, path)?;
-    file.sync_all()?;
-    let mut bytes = Vec::new(alloc);
-    let _ = file.read_to_end(&mut bytes)?;
-    Ok(bytes)
 }
 
 /// Shows a gateway on loopback.
@@ -397,9 +294,7 @@ where
         let _ = writeln!(faults, "out of memory");
         return ExitCode::from(1);
     };
-    let patience = Duration::from_secs(10);
-    let answer = Choice::AcceptLive;
-    ExitCode::from(show_demo(rt, alloc, hasher, patience, answer, &mut output, faults))
+    ExitCode::from(show_demo(rt, alloc, hasher, &mut output, faults))
 }
 
 /// Tells that the system has no random number for the seed of the gateway's indexes.

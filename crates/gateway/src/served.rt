@@ -1,53 +1,13 @@
 //! `serve` and `end`.
 
+use super::days::AskedDay;
 use super::journal::{journal_asked, stopped_at};
-use super::{ended, file_at, lines_of, no_seed, out_of_memory, refused_key};
-use gateway_run::{
-    Day, DayJournal, RunFault, SettingsFault, SettingsFile, end_stopped, read, tell,
-};
+use super::{file_at, out_of_memory, refused_key};
+use gateway_run::{SettingsFault, SettingsFile, read};
 use gateway_serve::{
-    Bound, ControlSettings, OperatorFault, OperatorSettings, Told, bind_all, read_operator,
-    serve_day, tell_end, tell_open_orders,
+    ControlSettings, OperatorFault, OperatorSettings, Told, bind_all, read_operator, tell_end,
 };
-use std::alloc::Global;
-use std::fs::{File, Files};
-use std::hash::RandomState;
-use std::io::{self, BufWriter, Write};
-use std::net::{Net, TcpListener, TcpStream};
 use std::process::ExitCode;
-use std::random::RandomSource;
-use std::sync::{Arc, Wait};
-use std::thread::Threads;
-use std::time::Clock;
-
-/// A gateway that is to be served until it is told to end: its settings, its listeners, and where its day's journal
-/// goes.
-#[derive(Drop)]
-pub(crate) struct AskedServe<'a> {
-    file: SettingsFile,
-    operator: OperatorSettings,
-    bound: Bound,
-    journal: Option<DayJournal>,
-    /// Where the journal is.
-    path: Option<&'a str>,
-}
-
-impl<'a> AskedServe<'a> {
-    /// By these settings and listeners, with no journal. Takes no memory.
-    pub(crate) fn without_journal(
-        file: SettingsFile,
-        operator: OperatorSettings,
-        bound: Bound,
-    ) -> AskedServe<'a> {
-        AskedServe {
-            file,
-            operator,
-            bound,
-            journal: None,
-            path: None,
-        }
-    }
-}
 
 /// What a settings file says, of the gateway and of its operator, or the status where it is refused.
 fn all_settings_at(
@@ -82,12 +42,12 @@ fn settings_in(rt: &HostRuntime, text: &[u8]) -> Result<SettingsFile, ExitCode> 
 
 /// What `serve` asks for, or the status where it is refused: of settings, of a journal that can't be made new, or of an
 /// address that can't be listened at. Nothing is connected before all of it is there.
-pub(crate) fn asked_serve<'a>(
+pub(crate) fn asked_serve(
     rt: &HostRuntime,
     settings: &str,
-    path: Option<&'a str>,
+    path: Option<&str>,
     sync: Option<&str>,
-) -> Result<AskedServe<'a>, ExitCode> {
+) -> Result<AskedDay, ExitCode> {
     let (file, operator) = all_settings_at(rt, settings)?;
     let bound = match bind_all(rt, rt.alloc(), &file.listens, &operator.control) {
         Ok(Some(bound)) => bound,
@@ -95,144 +55,24 @@ pub(crate) fn asked_serve<'a>(
         Err(_) => return Err(out_of_memory(rt)),
     };
     let journal = journal_asked(rt, path, sync)?;
-    Ok(AskedServe {
+    Ok(AskedDay::Serve {
         file,
+        journal,
         operator,
         bound,
-        journal,
-        path,
     })
-}
-
-/// Serves a gateway until it is told to end, and ends its day.
-pub(crate) fn serve_until_told<R, F: Write>(
-    rt: &R,
-    alloc: Global,
-    asked: AskedServe<'_>,
-    faults: &mut F,
-) -> ExitCode
-where
-    R: Threads
-        + Wait
-        + Sync
-        + Clock
-        + Net<Listener = TcpListener, Stream = TcpStream>
-        + RandomSource
-        + Files<File = File>
-        + Print
-        + Eprint
-        + Copy
-        + Send
-        + Drop
-        + 'static,
-{
-    let Ok(hasher) = RandomState::new(rt) else {
-        return no_seed(faults);
-    };
-    let Ok(mut output) = BufWriter::new(alloc, io::writer(rt)) else {
-        let _ = writeln!(faults, "out of memory");
-        return ExitCode::from(1);
-    };
-    let AskedServe {
-        file,
-        operator,
-        bound,
-        journal,
-        path,
-    } = asked;
-    let lines = match lines_of(rt, alloc) {
-        Ok(lines) => lines,
-        Err(fault) => return ExitCode::from(tell(fault, faults)),
-    };
-    let Ok(theirs) = Arc::try_clone(&lines) else {
-        return ExitCode::from(tell(RunFault::NoMemory, faults));
-    };
-    let ran = serve_day(rt, alloc, hasher, file, operator, bound, theirs, journal);
-    lines.end(rt);
-    ExitCode::from(status_of(rt, alloc, ran, path, &mut output, faults))
-}
-
-/// Ends a day: writes its audit, looks whether its journal has it, where there is one, and names the orders that aren't
-/// over. The status is as `ended` has it, and 1 where not all of them could be named, or the day didn't come to its
-/// end.
-fn status_of<R: Files<File = File>, W: Write, F: Write>(
-    rt: &R,
-    alloc: Global,
-    ran: Result<Day, RunFault>,
-    path: Option<&str>,
-    output: &mut W,
-    faults: &mut F,
-) -> u8 {
-    match ran {
-        Ok(day) => {
-            let status = ended(rt, alloc, &day, path, output, faults);
-            if tell_open_orders(alloc, &day, faults) {
-                status
-            } else {
-                status.max(1)
-            }
-        }
-        Err(fault) => tell(fault, faults),
-    }
-}
-
-/// The day of a gateway that stopped, which is to be ended: its settings, and its journal.
-#[derive(Drop)]
-pub(crate) struct AskedEnd<'a> {
-    file: SettingsFile,
-    journal: DayJournal,
-    /// Where the journal is.
-    path: &'a str,
 }
 
 /// What `end` of a journal asks for, or the status where it is refused: of settings, or of a journal that can't be had.
-pub(crate) fn asked_end<'a>(
+pub(crate) fn asked_end(
     rt: &HostRuntime,
     settings: &str,
-    path: &'a str,
-) -> Result<AskedEnd<'a>, ExitCode> {
+    path: &str,
+) -> Result<AskedDay, ExitCode> {
     let text = file_at(rt, settings)?;
     let file = settings_in(rt, text.as_slice())?;
     let journal = stopped_at(rt, path)?;
-    Ok(AskedEnd {
-        file,
-        journal,
-        path,
-    })
-}
-
-/// Ends the day of a gateway that stopped.
-pub(crate) fn end_of_day<R, F: Write>(
-    rt: &R,
-    alloc: Global,
-    asked: AskedEnd<'_>,
-    faults: &mut F,
-) -> ExitCode
-where
-    R: Threads
-        + Wait
-        + Sync
-        + Clock
-        + Net<Listener = TcpListener, Stream = TcpStream>
-        + RandomSource
-        + Files<File = File>
-        + Print
-        + Eprint,
-{
-    let Ok(hasher) = RandomState::new(rt) else {
-        return no_seed(faults);
-    };
-    let Ok(mut output) = BufWriter::new(alloc, io::writer(rt)) else {
-        let _ = writeln!(faults, "out of memory");
-        return ExitCode::from(1);
-    };
-    let AskedEnd {
-        file,
-        journal,
-        path,
-    } = asked;
-    let ran = end_stopped(rt, alloc, hasher, file, journal);
-    ExitCode::from(status_of(rt, alloc, ran, Some(path), &mut output, faults))
+    Ok(AskedDay::End { file, journal })
 }
 
 /// Tells the gateway that is served by these settings to end, and waits until it has.

@@ -6,7 +6,7 @@ ghost use Rattle.gateway_command.specs.Command as spec;
 use decimal_digits::{are_digits, number_of};
 
 /// What a command line asks for.
-#[derive(Clone, Copy, Debug, PartialEq, Eq)]
+#[derive(Clone, Copy)]
 pub enum Asked<'a> {
     /// The audit of the script in this file.
     Audit(&'a str),
@@ -80,7 +80,7 @@ pub enum Asked<'a> {
 }
 
 /// When a journal's file is synced.
-#[derive(Clone, Copy, Debug, PartialEq, Eq)]
+#[derive(Clone, Copy)]
 pub enum Syncs {
     /// With each write, before anybody is told.
     Each,

@@ -32,8 +32,7 @@ fn with_all<'a>(alloc: Global, command: Command<'a>) -> Result<Command<'a>, Allo
     with_commands(alloc, command, &COMMANDS)
 }
 
-/// A command with these subcommands more. Where one of them can't be had, the command is let go by a call: written out,
-/// field by field, its drop takes far longer to prove.
+/// A command with these subcommands more.
 fn with_commands<'a>(
     alloc: Global,
     command: Command<'a>,
@@ -42,23 +41,27 @@ fn with_commands<'a>(
     ensures { IfOk result (λ wider. app_of wider ≡ those (app_of command.entry) rows.now) }
 {
     match rows {
-        [row, rows @ ..] => match subcommand(alloc, *row) {
-            Ok(more) => with_commands(alloc, with_command(command, more)?, rows),
-            Err(error) => {
-                drop(command);
-                Err(error)
-            }
-        },
+        [row, rows @ ..] => with_commands(alloc, with_command(alloc, command, *row)?, rows),
         [] => Ok(command),
     }
 }
 
-/// A command with a subcommand more.
-fn with_command<'a>(command: Command<'a>, more: Command<'a>) -> Result<Command<'a>, AllocError>
-    requires own { (fields_of more).has_globals ≡ false }
-    ensures { IfOk result (λ wider. app_of wider ≡ spec.with_command (app_of command.entry) (app_of more.entry)) }
+/// A command with the subcommand of a row more. Where that can't be had, the command is let go by a call: written out,
+/// field by field, its drop takes far longer to prove.
+fn with_command<'a>(
+    alloc: Global,
+    command: Command<'a>,
+    row: CommandRow<'a>,
+) -> Result<Command<'a>, AllocError>
+    ensures { IfOk result (λ wider. app_of wider ≡ spec.with_command (app_of command.entry) (command_in row.entry)) }
 {
-    command.subcommand(more)
+    match subcommand(alloc, row) {
+        Ok(more) => command.subcommand(more),
+        Err(error) => {
+            drop(command);
+            Err(error)
+        }
+    }
 }
 
 /// The subcommand of a row.

@@ -6,7 +6,7 @@ use bytes::Bytes;
 use control_guard::{
     Act, Method, Refusal, Request as Asking, Rules, Verdict, View, judged, token_in,
 };
-use http::{HeaderValue, Request, StatusCode, header};
+use http::{HeaderMap, HeaderName, HeaderValue, Request, StatusCode, header};
 use http_server::{Response, Service};
 use status_page::{DayNames, Shown, json_of, metrics_of, page_of};
 use std::alloc::{AllocError, Global};
@@ -54,9 +54,8 @@ impl<'a, R: Wait + Clock> Answers<'a, R> {
 
     /// Shows what may be shown.
     fn shows(&self, view: View, response: &mut Response) -> Result<(), AllocError> {
-        let text = self.text_of(view)?;
         response.add_header(header::CONTENT_TYPE, kind_of(view))?;
-        let body = Bytes::from_vec(text)?;
+        let body = Bytes::from_vec(self.text_of(view)?)?;
         response.body.push(body)
     }
 
@@ -145,19 +144,33 @@ fn verdict_on(
     rules: &Rules,
 ) -> Result<Verdict, AllocError> {
     let headers = request.headers();
-    let token = match headers.get(header::AUTHORIZATION) {
-        Some(value) => token_in(alloc, value.as_bytes())?,
+    let token = match value_of(headers, header::AUTHORIZATION) {
+        Some(value) => token_in(alloc, value)?,
         None => None,
     };
     let asking = Asking {
         method: method_of(request.method().as_str()),
         path: request.uri().path().as_bytes(),
-        query: request.uri().query().map(|text| text.as_bytes()),
-        host: headers.get(header::HOST).map(|value| value.as_bytes()),
-        origin: headers.get(header::ORIGIN).map(|value| value.as_bytes()),
-        token: token.as_ref().map(|token| token.as_slice()),
+        query: match request.uri().query() {
+            Some(text) => Some(text.as_bytes()),
+            None => None,
+        },
+        host: value_of(headers, header::HOST),
+        origin: value_of(headers, header::ORIGIN),
+        token: match &token {
+            Some(token) => Some(token.as_slice()),
+            None => None,
+        },
     };
     Ok(judged(&asking, rules))
+}
+
+/// The value of a field, where it has one.
+fn value_of<'r>(headers: &'r HeaderMap, name: HeaderName) -> Option<&'r [u8]> {
+    match headers.get(name) {
+        Some(value) => Some(value.as_bytes()),
+        None => None,
+    }
 }
 
 /// A method by its name.

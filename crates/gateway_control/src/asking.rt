@@ -111,6 +111,15 @@ fn asked<R: Net<Listener = TcpListener, Stream = TcpStream>>(
     stream.set_read_timeout(Some(longest_wait()))?;
     stream.set_write_timeout(Some(longest_wait()))?;
     stream.write_all(request)?;
+    let answer = read_answer(alloc, &mut stream)?;
+    match status_in(answer.as_slice()) {
+        Some(status) => Ok(status),
+        None => Err(ErrorKind::InvalidData.into()),
+    }
+}
+
+/// What comes of an answer until its stream ends, or it is too long.
+fn read_answer(alloc: Global, stream: &mut TcpStream) -> io::Result<Vec<u8>> {
     let mut answer = Vec::new(alloc);
     let mut piece = [0u8; 512];
     for _ in 0..LONGEST_ANSWER {
@@ -123,10 +132,7 @@ fn asked<R: Net<Listener = TcpListener, Stream = TcpStream>>(
             break;
         }
     }
-    match status_in(answer.as_slice()) {
-        Some(status) => Ok(status),
-        None => Err(ErrorKind::InvalidData.into()),
-    }
+    Ok(answer)
 }
 
 /// The status of an answer: three digits behind `HTTP/1.1` and a space.

@@ -64,12 +64,7 @@ where
     let served = Arc::new(alloc, Served { rules, names })?;
     let mut threads = Vec::with_capacity(alloc, THREADS as usize)?;
     for _ in 0..THREADS {
-        let Ok(listener) = listener.try_clone() else {
-            break;
-        };
-        let served = Arc::try_clone(&served)?;
-        let control = Arc::try_clone(control)?;
-        match thread_of(rt, alloc, listener, served, control) {
+        match thread_of(rt, alloc, &listener, &served, control)? {
             Some(thread) => threads.push(thread)?,
             None => break,
         }
@@ -80,23 +75,28 @@ where
     Ok(Some(Endpoint { threads }))
 }
 
-/// A thread that serves connections one after the other.
+/// A thread that serves connections one after the other; `None` where it can't be had.
 fn thread_of<R>(
     rt: &R,
     alloc: Global,
-    listener: TcpListener,
-    served: Arc<Served>,
-    control: Arc<DayControl>,
-) -> Option<JoinHandle<()>>
+    listener: &TcpListener,
+    served: &Arc<Served>,
+    control: &Arc<DayControl>,
+) -> Result<Option<JoinHandle<()>>, AllocError>
 where
     R: Threads + Wait + Clock + RandomSource + Copy + Send + Drop + 'static,
 {
+    let served = Arc::try_clone(served)?;
+    let control = Arc::try_clone(control)?;
+    let Ok(listener) = listener.try_clone() else {
+        return Ok(None);
+    };
     let own = *rt;
-    thread::spawn(
+    let thread = thread::spawn(
         rt,
         move || serve_all(&own, alloc, &listener, &served, &control),
-    )
-    .ok()
+    );
+    Ok(thread.ok())
 }
 
 /// Has accepts of a listener come back after a while where no peer has come.
@@ -140,10 +140,7 @@ fn serve_one<R: Wait + Clock>(
     served: &Served,
     control: &DayControl,
 ) -> io::Result<()> {
-    stream.set_nodelay(true)?;
-    stream.set_read_timeout(Some(look()))?;
-    stream.set_write_timeout(Some(look()))?;
-    let since = Instant::now(rt)?;
+    let since = begun(rt, stream)?;
     let mut reader = Timed::new(rt, stream, since, control);
     let mut writer = Timed::new(rt, stream, since, control);
     let config = Config {
@@ -153,4 +150,12 @@ fn serve_one<R: Wait + Clock>(
     let mut connection = Connection::new(alloc, keys, config);
     let mut answers = Answers::new(rt, alloc, served, control);
     serve(&mut connection, &mut answers, &mut reader, &mut writer)
+}
+
+/// Has a connection's reads and writes come back after a while; answers the moment.
+fn begun<R: Clock>(rt: &R, stream: &TcpStream) -> io::Result<Instant> {
+    stream.set_nodelay(true)?;
+    stream.set_read_timeout(Some(look()))?;
+    stream.set_write_timeout(Some(look()))?;
+    Instant::now(rt)
 }

@@ -1,5 +1,7 @@
 //! A connection with a deadline.
 
+ghost use Rattle.std.specs.Prelude.{◌≡◌, IfSome};
+
 use crate::control::DayControl;
 use std::io;
 use std::io::{ErrorKind, Read, Write};
@@ -60,6 +62,18 @@ impl<'a, R: Clock> Timed<'a, R> {
     }
 }
 
+/// What a read or write has answered; `None` where it may be tried again.
+fn settled(answer: io::Result<usize>) -> Option<io::Result<usize>>
+    ensures { IfSome result (λ same. same ≡ answer) }
+{
+    if let Err(error) = &answer {
+        if is_passing(error) {
+            return None;
+        }
+    }
+    Some(answer)
+}
+
 /// Whether what failed may be tried again.
 fn is_passing(error: &io::Error) -> bool {
     matches!(
@@ -77,19 +91,12 @@ impl<'a, R: Clock> Read for Timed<'a, R> {
         };
         for _ in 0..u64::MAX {
             let mut stream = self.stream;
-            match stream.read(buf) {
-                Ok(count) => {
-                    self.has_read = true;
-                    return Ok(count);
-                }
-                Err(error) => {
-                    if !is_passing(&error) {
-                        return Err(error);
-                    }
-                }
+            if let Some(answer) = settled(stream.read(buf)) {
+                self.has_read = self.has_read || answer.is_ok();
+                return answer;
             }
             if self.is_late(most) {
-                return Err(ErrorKind::TimedOut.into());
+                break;
             }
         }
         Err(ErrorKind::TimedOut.into())
@@ -100,16 +107,11 @@ impl<'a, R: Clock> Write for Timed<'a, R> {
     fn write(&mut self, buf: &[u8]) -> io::Result<usize> {
         for _ in 0..u64::MAX {
             let mut stream = self.stream;
-            match stream.write(buf) {
-                Ok(count) => return Ok(count),
-                Err(error) => {
-                    if !is_passing(&error) {
-                        return Err(error);
-                    }
-                }
+            if let Some(answer) = settled(stream.write(buf)) {
+                return answer;
             }
             if self.is_late(longest_connection()) {
-                return Err(ErrorKind::TimedOut.into());
+                break;
             }
         }
         Err(ErrorKind::TimedOut.into())

@@ -7,17 +7,6 @@ use std::alloc::Global;
 use std::io::{Read, Write};
 use std::time::Clock;
 
-/// An order of a client: it buys INTC for the day.
-#[derive(Clone, Copy)]
-pub struct Order {
-    /// ClOrdID (11).
-    pub id: &'static str,
-    /// OrderQty (38).
-    pub shares: u32,
-    /// Price (44), as it is written.
-    pub limit: &'static str,
-}
-
 /// A client's end of a FIX session with the gateway `GATE`, over a stream.
 #[derive(Drop)]
 pub struct Client<'a, R, S> {
@@ -62,22 +51,10 @@ impl<'a, R: Clock, S: Read + Write + Drop> Client<'a, R, S> {
         self.wait_for(1, 35, b"5")
     }
 
-    /// Enters an order.
-    pub fn buy(&mut self, order: &Order) -> Result<(), DemoFault> {
-        let Order { id, shares, limit } = *order;
-        self.enter(id, shares, limit)
-    }
-
-    /// Enters an order of this ClOrdID: so many shares at this limit.
-    pub(crate) fn enter(&mut self, id: &str, shares: u32, limit: &str) -> Result<(), DemoFault> {
+    /// Enters its order of this number from 1, by ClOrdIDs (11) `A1`, `A2` and so on: it buys INTC for the day.
+    pub fn enter(&mut self, number: u64) -> Result<(), DemoFault> {
         let mut body = Vec::new(self.alloc);
-        write!(
-            body,
-            "11={id}\x0121=1\x0138={shares}\x0140=2\x0144={limit}\x01"
-        )?;
-        body.extend_from_slice(b"54=1\x0155=INTC\x0159=0\x0160=")?;
-        body.extend_from_slice(&self.now())?;
-        body.extend_from_slice(b"\x01")?;
+        push_order(&mut body, number, &self.now())?;
         self.say("D", body.as_slice())
     }
 
@@ -97,6 +74,15 @@ impl<'a, R: Clock, S: Read + Write + Drop> Client<'a, R, S> {
     /// Sends a message of this type with these fields behind its header.
     fn say(&mut self, kind: &str, body: &[u8]) -> Result<(), DemoFault> {
         let mut text = Vec::new(self.alloc);
+        self.push_text(&mut text, kind, body)?;
+        self.next = self.next.saturating_add(1);
+        let message = frame_of_text(self.alloc, text.as_slice())?;
+        self.stream.write_all(message.as_slice())?;
+        Ok(())
+    }
+
+    /// Adds the text of the next message, with its header.
+    fn push_text(&self, text: &mut Vec<u8>, kind: &str, body: &[u8]) -> Result<(), DemoFault> {
         let Client { name, next, .. } = self;
         write!(
             text,
@@ -105,9 +91,6 @@ impl<'a, R: Clock, S: Read + Write + Drop> Client<'a, R, S> {
         text.extend_from_slice(&self.now())?;
         text.extend_from_slice(b"\x01")?;
         text.extend_from_slice(body)?;
-        self.next = self.next.saturating_add(1);
-        let message = frame_of_text(self.alloc, text.as_slice())?;
-        self.stream.write_all(message.as_slice())?;
         Ok(())
     }
 
@@ -141,4 +124,26 @@ impl<'a, R: Clock, S: Read + Write + Drop> Client<'a, R, S> {
         }
         Ok(found)
     }
+}
+
+/// What a client buys as its order of this number: so many shares (38) at this limit (44).
+fn terms_of(number: u64) -> (u32, &'static str) {
+    match number % 3 {
+        1 => (100, "10"),
+        2 => (200, "10.5"),
+        _ => (300, "11"),
+    }
+}
+
+/// Adds the fields of the order of this number, entered at this moment.
+fn push_order(body: &mut Vec<u8>, number: u64, at: &[u8; 21]) -> Result<(), DemoFault> {
+    let (shares, limit) = terms_of(number);
+    write!(
+        body,
+        "11=A{number}\x0121=1\x0138={shares}\x0140=2\x0144={limit}\x01"
+    )?;
+    body.extend_from_slice(b"54=1\x0155=INTC\x0159=0\x0160=")?;
+    body.extend_from_slice(at)?;
+    body.extend_from_slice(b"\x01")?;
+    Ok(())
 }

@@ -10,10 +10,7 @@ mod settings;
 mod showing;
 mod traders;
 
-pub use client::{Client, Order};
 pub use fault::DemoFault;
-pub use market::Market;
-pub use market_book::Choice;
 pub use serving::{ServedDemo, served_demo};
-pub use showing::{connected, demo, loopback, show_demo};
+pub use showing::show_demo;
 pub use traders::Traders;

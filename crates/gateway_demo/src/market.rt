@@ -8,78 +8,68 @@ use std::alloc::Global;
 use std::io::{Read, Write};
 use wire_law::{FixedWire, WholeWire};
 
-/// A market of one port. It has its own answer to each message, and executes each order that it took at its limit, in
-/// one trade.
+/// A market of one port, which takes each order and executes it at its limit, in one trade.
 #[derive(Drop)]
 pub struct Market {
     alloc: Global,
     sim: Sim,
-    answer: Choice,
 }
 
 impl Market {
-    /// A market without orders, of this answer. Takes no memory.
-    pub fn new(alloc: Global, answer: Choice) -> Market {
+    /// A market without orders. Takes no memory.
+    pub fn new(alloc: Global) -> Market {
         Market {
             alloc,
             sim: Sim::new(alloc),
-            answer,
         }
     }
 
-    /// Serves a link until the gateway has closed it, or so many orders were entered by it. Orders and what was said
-    /// of them stay for the next one.
-    pub fn serve<S: Read, W: Write>(
-        &mut self,
-        most: u32,
-        from: &mut S,
-        to: &mut W,
-    ) -> Result<(), DemoFault> {
+    /// Serves a link until the gateway has closed it. Orders and what was said of them stay for the next one.
+    pub fn serve<S: Read, W: Write>(&mut self, from: &mut S, to: &mut W) -> Result<(), DemoFault> {
         let _ = self.sim.step(self.alloc, SimEvent::Up)?;
         let mut packets = Packets::new(self.alloc);
-        let mut left = most;
         let mut piece = [0u8; 4096];
         for _ in 0..u64::MAX {
-            if left == 0 {
-                break;
-            }
             let count = from.read(&mut piece)?;
             if count == 0 {
                 break;
             }
-            let Ok(found) = packets.feed(self.alloc, &piece[..count]) else {
-                return Err(DemoFault::NotFinished);
-            };
-            left = left.saturating_sub(self.take_all(found, to)?);
+            self.take_all(&mut packets, &piece[..count], to)?;
         }
         let _ = self.sim.step(self.alloc, SimEvent::Gone)?;
         Ok(())
     }
 
-    /// Answers packets, and tells how many orders they entered.
-    fn take_all<W: Write>(&mut self, found: Vec<Packet>, to: &mut W) -> Result<u32, DemoFault> {
-        let mut entered = 0u32;
+    /// Answers the packets that these bytes bring.
+    fn take_all<W: Write>(
+        &mut self,
+        packets: &mut Packets,
+        bytes: &[u8],
+        to: &mut W,
+    ) -> Result<(), DemoFault> {
+        let Ok(found) = packets.feed(self.alloc, bytes) else {
+            return Err(DemoFault::NotFinished);
+        };
         for packet in found {
-            entered = entered.saturating_add(self.take(packet, to)?);
+            self.take(packet, to)?;
         }
-        Ok(entered)
+        Ok(())
     }
 
-    /// Answers a packet, trades the order that it enters, and tells how many it enters.
-    fn take<W: Write>(&mut self, packet: Packet, to: &mut W) -> Result<u32, DemoFault> {
+    /// Answers a packet, and trades the order that it enters.
+    fn take<W: Write>(&mut self, packet: Packet, to: &mut W) -> Result<(), DemoFault> {
         let trading = trading_of(&packet);
-        let said = self
-            .sim
-            .step(self.alloc, SimEvent::Packet(packet, self.answer))?;
-        say(self.alloc, said.as_slice(), to)?;
-        let Some(trading) = trading else {
-            return Ok(0);
-        };
-        let said = self
-            .sim
-            .step(self.alloc, SimEvent::Act(Choice::Execute(trading)))?;
-        say(self.alloc, said.as_slice(), to)?;
-        Ok(1)
+        self.step(SimEvent::Packet(packet, Choice::AcceptLive), to)?;
+        match trading {
+            Some(trading) => self.step(SimEvent::Act(Choice::Execute(trading)), to),
+            None => Ok(()),
+        }
+    }
+
+    /// Steps the market, and writes what it says.
+    fn step<W: Write>(&mut self, event: SimEvent, to: &mut W) -> Result<(), DemoFault> {
+        let said = self.sim.step(self.alloc, event)?;
+        say(self.alloc, said.as_slice(), to)
     }
 }
 

@@ -30,17 +30,35 @@ pub fn served_demo<R: Net<Listener = TcpListener, Stream = TcpStream>>(
     let (_first, first) = loopback(rt, alloc)?;
     let (_second, second) = loopback(rt, alloc)?;
     let (_control, control) = loopback(rt, alloc)?;
-    let mut settings = String::new(alloc);
-    push_head(&mut settings, control.as_str())?;
-    push_port(&mut settings, at.as_str())?;
-    push_client(&mut settings, "C1", first.as_str())?;
-    push_client(&mut settings, "C2", second.as_str())?;
+    let settings = settings_of(
+        alloc,
+        at.as_str(),
+        first.as_str(),
+        second.as_str(),
+        control.as_str(),
+    )?;
     Ok(ServedDemo {
         market,
         first,
         second,
         settings,
     })
+}
+
+/// Its settings, with its market, its clients and its endpoint at these addresses.
+fn settings_of(
+    alloc: Global,
+    market: &str,
+    first: &str,
+    second: &str,
+    control: &str,
+) -> Result<String, DemoFault> {
+    let mut settings = String::new(alloc);
+    push_head(&mut settings, control)?;
+    push_port(&mut settings, market)?;
+    push_client(&mut settings, "C1", first)?;
+    push_client(&mut settings, "C2", second)?;
+    Ok(settings)
 }
 
 /// Adds where the page is and how it ends, as comments, and the gateway with its endpoint.

@@ -3,13 +3,12 @@
 ghost use Rattle.std.specs.Prelude.{◌≡◌, ◌≤◌};
 ghost use Rattle.gateway_run.specs.Told.{AuditIsTold};
 
-use crate::client::{Client, Order};
+use crate::client::Client;
 use crate::fault::DemoFault;
 use crate::market::Market;
 use crate::settings::demo_settings;
 use gateway_run::{Day, LinkRules, RunFault, RunPlan, audit_day, run};
 use link_sockets::{Acceptor, Connector, Opened, Opener};
-use market_book::Choice;
 use std::alloc::{AllocError, Global};
 use std::hash::RandomState;
 use std::io::{Read, Write};
@@ -17,30 +16,11 @@ use std::net::{Net, TcpListener, TcpStream};
 use std::sync::Wait;
 use std::sync::atomic::{AtomicBool, Ordering};
 use std::thread;
-use std::thread::Threads;
+use std::thread::{JoinHandle, Threads};
 use std::time::{Clock, Duration};
 
-/// What each client buys.
-const ORDERS: [Order; 3] = [
-    Order {
-        id: "A1",
-        shares: 100,
-        limit: "10",
-    },
-    Order {
-        id: "A2",
-        shares: 200,
-        limit: "10.5",
-    },
-    Order {
-        id: "A3",
-        shares: 300,
-        limit: "11",
-    },
-];
-
 /// A listener on loopback, and its address.
-pub fn loopback<R: Net<Listener = TcpListener, Stream = TcpStream>>(
+pub(crate) fn loopback<R: Net<Listener = TcpListener, Stream = TcpStream>>(
     rt: &R,
     alloc: Global,
 ) -> Result<(TcpListener, String), DemoFault> {
@@ -50,29 +30,31 @@ pub fn loopback<R: Net<Listener = TcpListener, Stream = TcpStream>>(
     Ok((listener, address))
 }
 
-/// A stream to an address, whose reads wait so long at most.
-pub fn connected<R: Net<Listener = TcpListener, Stream = TcpStream>>(
+/// How long a client waits at most for each thing that is to come.
+fn patience() -> Duration {
+    Duration::from_secs(10)
+}
+
+/// A client's stream to an address.
+pub(crate) fn connected<R: Net<Listener = TcpListener, Stream = TcpStream>>(
     rt: &R,
     address: &str,
-    patience: Duration,
 ) -> Result<TcpStream, DemoFault> {
     let stream = TcpStream::connect(rt, address)?;
     stream.set_nodelay(true)?;
-    stream.set_read_timeout(Some(patience))?;
+    stream.set_read_timeout(Some(patience()))?;
     Ok(stream)
 }
 
 /// Runs the demonstration (`demo`), and writes the audit of its day to `output`.
 ///
 /// Answers its program's status: 0 where both accounts of each order agree; else 1, with a line on `faults`: `demo: not
-/// finished` where a client waited so long for what didn't come, `gateway: link fault n` for a socket that couldn't be
-/// had or failed, `gateway: no thread`, `out of memory`, and what `audit_day` tells.
+/// finished` where a client waited ten seconds for what didn't come, `gateway: link fault n` for a socket that couldn't
+/// be had or failed, `gateway: no thread`, `out of memory`, and what `audit_day` tells.
 pub fn show_demo<R, W: Write, F: Write>(
     rt: &R,
     alloc: Global,
     hasher: RandomState,
-    patience: Duration,
-    answer: Choice,
     output: &mut W,
     faults: &mut F,
 ) -> u8
@@ -81,7 +63,7 @@ where
     ensures status { result ≤ 1 }
     ensures told { result ≡ 0 → AuditIsTold (W.contents output.old) (W.contents output.new) }
 {
-    match demo(rt, alloc, hasher, patience, answer) {
+    match demo(rt, alloc, hasher) {
         Ok(day) => audit_day(alloc, &day, output, faults),
         Err(fault) => tell(fault, faults),
     }
@@ -100,22 +82,15 @@ fn tell<F: Write>(fault: DemoFault, faults: &mut F) -> u8
     1
 }
 
-/// Runs the gateway on loopback between two clients and a market of this answer to each order, until each client's
-/// three orders are filled, and gives its day. A client waits so long at most for each thing that is to come. The
-/// gateway's indexes are over a hasher.
-pub fn demo<R>(
-    rt: &R,
-    alloc: Global,
-    hasher: RandomState,
-    patience: Duration,
-    answer: Choice,
-) -> Result<Day, DemoFault>
+/// Runs the gateway on loopback between two clients and a market, until each client's three orders are filled, and
+/// gives its day. The gateway's indexes are over a hasher.
+fn demo<R>(rt: &R, alloc: Global, hasher: RandomState) -> Result<Day, DemoFault>
 where
     R: Threads + Wait + Sync + Clock + Eprint + Net<Listener = TcpListener, Stream = TcpStream>,
 {
     let is_over = AtomicBool::new(false);
     let is_past = AtomicBool::new(false);
-    demonstrate(rt, alloc, hasher, patience, answer, &is_over, &is_past)
+    demonstrate(rt, alloc, hasher, &is_over, &is_past)
 }
 
 /// The same with these flags: `is_over` ends the gateway, and `is_past` the market behind it.
@@ -123,8 +98,6 @@ fn demonstrate<R>(
     rt: &R,
     alloc: Global,
     hasher: RandomState,
-    patience: Duration,
-    answer: Choice,
     is_over: &AtomicBool,
     is_past: &AtomicBool,
 ) -> Result<Day, DemoFault>
@@ -138,21 +111,41 @@ where
     let settings = demo_settings(alloc)?;
     let (first, second) = (first_address.as_str(), second_address.as_str());
     thread::scope(thread::scope_env(), rt, |scope| {
-        let market = scope.spawn(move || serve_market(rt, alloc, market, answer, is_past));
-        let one = scope.spawn(move || trade(rt, alloc, "C1", first, patience, is_over));
-        let two = scope.spawn(move || trade(rt, alloc, "C2", second, patience, is_over));
-        if market.is_err() || one.is_err() || two.is_err() {
+        let market = scope
+            .spawn(move || serve_market(rt, alloc, market, is_past))
+            .ok();
+        let one = scope
+            .spawn(move || trade(rt, alloc, "C1", first, is_over))
+            .ok();
+        let two = scope
+            .spawn(move || trade(rt, alloc, "C2", second, is_over))
+            .ok();
+        if market.is_none() || one.is_none() || two.is_none() {
             is_over.store(true, Ordering::SeqCst);
         }
         let ran = run(rt, alloc, hasher, settings, plan, is_over);
         is_over.store(true, Ordering::SeqCst);
         is_past.store(true, Ordering::SeqCst);
-        let (Ok(market), Ok(one), Ok(two)) = (market, one, two) else {
-            return Err(DemoFault::NoThread);
-        };
-        let (market, one, two) = (market.join(rt), one.join(rt), two.join(rt));
-        day_of(ran, market, one.and(two))
+        ended(rt, ran, market, one, two)
     })
+}
+
+/// A market or a client, in a thread of its own.
+type Trader = JoinHandle<Result<(), DemoFault>>;
+
+/// The day of a gateway that has ended, once its market and its clients have; `NoThread` where one of them had none.
+fn ended<R: Threads + Wait>(
+    rt: &R,
+    ran: Result<Day, RunFault>,
+    market: Option<Trader>,
+    one: Option<Trader>,
+    two: Option<Trader>,
+) -> Result<Day, DemoFault> {
+    let (Some(market), Some(one), Some(two)) = (market, one, two) else {
+        return Err(DemoFault::NoThread);
+    };
+    let (market, one, two) = (market.join(rt), one.join(rt), two.join(rt));
+    day_of(ran, market, one.and(two))
 }
 
 /// The day of a gateway that ran to its end, where its clients have done all that they do; else why they have not: by
@@ -201,7 +194,6 @@ fn serve_market<'a, R: Clock + Net<Listener = TcpListener, Stream = TcpStream>>(
     rt: &'a R,
     alloc: Global,
     listener: TcpListener,
-    answer: Choice,
     is_past: &'a AtomicBool,
 ) -> Result<(), DemoFault> {
     let mut links = Acceptor::of_listener(rt, listener, 1, is_past);
@@ -213,7 +205,7 @@ fn serve_market<'a, R: Clock + Net<Listener = TcpListener, Stream = TcpStream>>(
         mut writer,
         ..
     } = link.map_err(DemoFault::Link)?;
-    Market::new(alloc, answer).serve(u32::MAX, &mut reader, &mut writer)
+    Market::new(alloc).serve(&mut reader, &mut writer)
 }
 
 /// Connects a client, and has it buy all that is to be bought. Where it can't, `is_over` is set: nobody else waits.
@@ -222,10 +214,9 @@ fn trade<R: Clock + Net<Listener = TcpListener, Stream = TcpStream>>(
     alloc: Global,
     name: &'static str,
     address: &str,
-    patience: Duration,
     is_over: &AtomicBool,
 ) -> Result<(), DemoFault> {
-    let traded = match connected(rt, address, patience) {
+    let traded = match connected(rt, address) {
         Ok(stream) => buy_all(Client::new(rt, alloc, name, stream)),
         Err(fault) => Err(fault),
     };
@@ -238,8 +229,8 @@ fn trade<R: Clock + Net<Listener = TcpListener, Stream = TcpStream>>(
 /// Logs on, buys, waits until all is filled, and logs out.
 fn buy_all<R: Clock, S: Read + Write + Drop>(mut client: Client<R, S>) -> Result<(), DemoFault> {
     client.log_on()?;
-    for order in ORDERS {
-        client.buy(&order)?;
+    for number in 1..4 {
+        client.enter(number)?;
     }
     client.wait_for_fills(3)?;
     client.log_out()

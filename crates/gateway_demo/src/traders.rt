@@ -5,7 +5,6 @@ use crate::fault::DemoFault;
 use crate::market::Market;
 use crate::showing::connected;
 use link_sockets::{Acceptor, Opened, Opener};
-use market_book::Choice;
 use std::alloc::{AllocError, Global};
 use std::io::{Read, Write};
 use std::net::{Net, TcpListener, TcpStream};
@@ -21,20 +20,6 @@ const LOOKS: u32 = 20;
 /// A look is so long: a client rests for a second behind each order.
 fn look() -> Duration {
     Duration::from_millis(50)
-}
-
-/// How long a client waits for an answer.
-fn patience() -> Duration {
-    Duration::from_secs(10)
-}
-
-/// What a client buys as its order of this number: so many shares at this limit.
-fn terms_of(number: u64) -> (u32, &'static str) {
-    match number % 3 {
-        0 => (100, "10"),
-        1 => (200, "10.5"),
-        _ => (300, "11"),
-    }
 }
 
 /// A market and two clients that trade, each in a thread of its own.
@@ -186,7 +171,7 @@ fn serve_links<R: Clock + Net<Listener = TcpListener, Stream = TcpStream>>(
     listener: TcpListener,
     is_over: &AtomicBool,
 ) {
-    let mut market = Market::new(alloc, Choice::AcceptLive);
+    let mut market = Market::new(alloc);
     let mut links = Acceptor::of_listener(rt, listener, u32::MAX, is_over);
     for _ in 0..u64::MAX {
         match links.open() {
@@ -207,7 +192,7 @@ fn serve_link<S: Read + Drop, W: Write + Drop, C: Drop>(
         mut writer,
         ..
     } = link;
-    let _ = market.serve(u32::MAX, &mut reader, &mut writer);
+    let _ = market.serve(&mut reader, &mut writer);
 }
 
 /// Trades as the client of this name, on one link after the other, until it is over.
@@ -223,9 +208,9 @@ fn trade_on<R: Clock + Net<Listener = TcpListener, Stream = TcpStream>>(
         if is_over.load(Ordering::SeqCst) {
             return;
         }
-        if let Ok(stream) = connected(rt, address, patience()) {
+        if let Ok(stream) = connected(rt, address) {
             let mut client = Client::new(rt, alloc, name, stream);
-            let _ = trade(rt, alloc, &mut client, &mut orders, is_over);
+            let _ = trade(rt, &mut client, &mut orders, is_over);
         }
         rest(rt, is_over);
     }
@@ -235,7 +220,6 @@ fn trade_on<R: Clock + Net<Listener = TcpListener, Stream = TcpStream>>(
 /// until it is over.
 fn trade<R: Clock, S: Read + Write + Drop>(
     rt: &R,
-    alloc: Global,
     client: &mut Client<'_, R, S>,
     orders: &mut u64,
     is_over: &AtomicBool,
@@ -247,9 +231,7 @@ fn trade<R: Clock, S: Read + Write + Drop>(
         }
         let number = orders.saturating_add(1);
         *orders = number;
-        let id = format!(in alloc; "A{number}")?;
-        let (shares, limit) = terms_of(number);
-        client.enter(id.as_str(), shares, limit)?;
+        client.enter(number)?;
         client.wait_for_fills(1)?;
         rest(rt, is_over);
     }

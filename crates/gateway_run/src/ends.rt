@@ -4,11 +4,10 @@ ghost use Rattle.std.specs.Prelude.{◌≡◌, All, true};
 ghost use Rattle.gateway_run.specs.Own.{source_of_peer};
 
 use crate::counted::CountedLinks;
-use crate::lines::{RunLine, line_of, login_teller_of, teller_of};
+use crate::lines::{RunLine, line_of, teller_of};
 use crate::port_faults::PortLinks;
 use crate::run_gate::RunGate;
 use crate::run_opener::RunOpener;
-use crate::telling_gate::TellingGate;
 use desk_gates::{DeskName, Inlet, InletGate, OutletEnd, OutletPen, Prompt, Shared};
 use gate_events::{Recipient, Source};
 use std::alloc::{AllocError, Global};
@@ -44,7 +43,7 @@ pub(crate) struct Ends<'p, 'a, W: Prompt + Drop, G: OutletEnd + Drop, A, C, K: D
     alloc: Global,
     rules: LinkRules,
     pub(crate) lines: Vec<RunLine<'p, 'a, W, G, A, C, K, R>>,
-    ghost puts_own: { All (λ l. l.reader.gate.gate.gate.inlet.source ≡ source_of_peer l.peer) lines.items },
+    ghost puts_own: { All (λ l. l.reader.gate.gate.inlet.source ≡ source_of_peer l.peer) lines.items },
     ghost takes_own: { All (λ l. G.told l.writer.pen.now.first.value ≡ l.peer) lines.items },
 }
 
@@ -82,9 +81,7 @@ impl<
             let at = inlet.position();
             let teller = teller_of(rt, self.rules.tells_frames, &peer);
             let own = InletGate::new(shared, pens, inlet);
-            let who = login_teller_of(rt, self.rules.tells_frames, &peer);
-            let own = RunGate::new(rt, self.alloc, shared, own, who, letter_of(&opener));
-            let gate = TellingGate::new(self.alloc, own, teller);
+            let gate = RunGate::new(rt, self.alloc, shared, own, teller, letter_of(&opener));
             let line = line_of(rt, shared, peer, opener, gate, at, pen);
             return self.keep(line);
         }
@@ -93,7 +90,7 @@ impl<
 
     /// Adds a line that is over its own ends.
     fn keep(&mut self, line: RunLine<'p, 'a, W, G, A, C, K, R>) -> Result<(), AllocError>
-        requires puts_own { line.reader.gate.gate.gate.inlet.source ≡ source_of_peer line.peer }
+        requires puts_own { line.reader.gate.gate.inlet.source ≡ source_of_peer line.peer }
         requires takes_own { G.told line.writer.pen.now.first.value ≡ line.peer }
     {
         self.lines.push(line)?;

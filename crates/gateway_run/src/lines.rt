@@ -34,9 +34,10 @@ fn longest_sleep() -> Duration {
 }
 
 /// The gate of a reader, or of the ticker, over an inlet.
-pub(crate) type ReadingGate<'p, 'a, W, G, K, R> = TellingGate<
+pub(crate) type ReadingGate<'p, 'a, W, G, K, R> = RunGate<
     'a,
-    RunGate<'a, InletGate<'p, 'a, W, G, K, RandomState>, K, R>,
+    InletGate<'p, 'a, W, G, K, RandomState>,
+    K,
     R,
 >;
 
@@ -113,18 +114,16 @@ pub(crate) fn ticks_of<'p, 'a, W: Prompt + Drop, G: OutletEnd + Drop, K, R>(
 where
     K: DeskName,
     R: Wait + Clock + Eprint,
-    ensures own { IfSome result (λ ticks. ticks.gate.gate.gate.inlet.source ≡ sources.Clock) }
+    ensures own { IfSome result (λ ticks. ticks.gate.gate.inlet.source ≡ sources.Clock) }
 {
     if inlet.source() == Source::Clock {
         let Count { clients, ports } = count;
         let own = InletGate::new(shared, pens, inlet);
-        let own = RunGate::new(rt, alloc, shared, own, None, None);
-        let gate = TellingGate::new(alloc, own, None);
         return Some(Ticks {
             clients,
             ports,
             is_over,
-            gate,
+            gate: RunGate::new(rt, alloc, shared, own, None, None),
             clock: RunClock::watching(rt, alloc, shared, counts, ports_of, is_over, board, syncs),
         });
     }
@@ -161,7 +160,7 @@ impl<K: DeskName> Left<K> {
     ) -> Result<(), AllocError> {
         for line in lines {
             let Line { fault, reader, .. } = line;
-            self.end_inlet(reader.gate.into_gate().into_gate())?;
+            self.end_inlet(reader.gate.into_gate())?;
             self.fault = self.fault.or(fault);
         }
         Ok(())
@@ -176,7 +175,7 @@ impl<K: DeskName> Left<K> {
             return Ok(());
         };
         let Ticks { gate, .. } = ticks;
-        self.end_inlet(gate.into_gate().into_gate())
+        self.end_inlet(gate.into_gate())
     }
 
     /// Ends the inlet of a gate, and keeps what was put.
@@ -214,15 +213,15 @@ pub(crate) fn pens_of<'a, W: Prompt + Drop, K: DeskName, R: Clock + Eprint>(
 ) -> Result<Vec<OutletPen<W, WritingGate<'a, K, R>>>, AllocError> {
     let mut pens = Vec::with_capacity(alloc, outlets.len())?;
     for outlet in outlets {
-        let teller = teller_of(rt, tells_frames, &outlet.recipient());
+        let teller = frame_teller_of(rt, tells_frames, &outlet.recipient());
         let gate = TellingGate::new(alloc, OutletGate::new(shared, outlet), teller);
         pens.push(OutletPen::new(gate))?;
     }
     Ok(pens)
 }
 
-/// Who tells of what goes over the links of a client, where that is told of; of a port's nobody does.
-pub(crate) fn teller_of<'a, R: Clock + Eprint>(
+/// Who tells of the frames that a client is sent, where that is told of; of what a port is sent nobody does.
+fn frame_teller_of<'a, R: Clock + Eprint>(
     rt: &'a R,
     tells_frames: bool,
     whose: &Recipient,
@@ -235,8 +234,8 @@ pub(crate) fn teller_of<'a, R: Clock + Eprint>(
     }
 }
 
-/// Who tells why the sessions of a client's or port's links are refused, where that is told of.
-pub(crate) fn login_teller_of<'a, R: Clock + Eprint>(
+/// Who tells of what a client's or port's links bring, where that is told of.
+pub(crate) fn teller_of<'a, R: Clock + Eprint>(
     rt: &'a R,
     tells_frames: bool,
     whose: &Recipient,

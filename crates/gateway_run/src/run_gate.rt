@@ -1,6 +1,6 @@
-//! What is looked at before it goes to the desk: ticks that aren't due, or come too soon behind a standstill, are left
-//! out, a client that asks for too much again is given up, and it is told why a client's Logon isn't answered, and what
-//! a market says of a login.
+//! What is looked at before it goes to the desk. Ticks that aren't due, or come too soon behind a standstill, are left
+//! out; a client that asks for too much again is given up; it is told which bytes are no frame, why a client's Logon
+//! isn't answered, and what a market says of a login.
 
 use crate::telling::Teller;
 use desk_gates::{DeskName, Gate, Shared};
@@ -26,8 +26,8 @@ use std::time::Clock;
 /// A ResendRequest by which a client asks for too much again within an hour (`Resends`) is given back, and then its
 /// link is given up (`gives_up`): each answer would lie in memory, and stand in the day's history.
 ///
-/// Where somebody tells, it is told why a link's first frame is no Logon that is answered (`Core::logon_fault`), and
-/// with which letter a market rejects a login.
+/// Where somebody tells, it is told how many bytes of its link were part of no message, why a link's first frame is no
+/// Logon that is answered (`Core::logon_fault`), and with which letter a market rejects a login.
 #[derive(Drop)]
 pub(crate) struct RunGate<'a, G, K: DeskName, R> {
     gate: G,
@@ -227,6 +227,12 @@ impl<'a, G: Gate, K: DeskName, R: Wait + Clock + Eprint> Gate for RunGate<'a, G,
 
     fn gives_up(&self) -> bool {
         self.is_given_up
+    }
+
+    fn tell_skipped(&self, count: u64) {
+        if let Some(teller) = &self.teller {
+            teller.tell_skipped(count);
+        }
     }
 }
 

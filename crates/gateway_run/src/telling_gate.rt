@@ -1,5 +1,5 @@
-//! What is told of a client's link by its two gates, so that whoever runs the gateway sees why nothing goes through:
-//! frames that refuse a message, ask for messages again or end a session; and bytes that are no frame.
+//! What is told of the frames that a client is sent, so that whoever runs the gateway sees why nothing goes through:
+//! those that refuse a message, ask for messages again or end a session.
 
 use crate::telling::Teller;
 use desk_gates::{Gate, OutletEnd};
@@ -10,8 +10,8 @@ use std::alloc::{AllocError, Global};
 use std::sync::Wait;
 use std::time::Clock;
 
-/// A gate that tells on standard error of what its link skips, and of each Reject, ResendRequest and Logout that its
-/// link is sent; or that tells nothing.
+/// A gate of a link's writer that tells on standard error of each Reject, ResendRequest and Logout that its link is
+/// sent; or that tells nothing.
 #[derive(Drop)]
 pub(crate) struct TellingGate<'a, G, R> {
     gate: G,
@@ -62,20 +62,6 @@ impl<'a, G: Gate, R: Clock + Eprint> Gate for TellingGate<'a, G, R> {
 
     fn turn<W: Wait>(&mut self, rt: &W, alloc: Global) -> Result<u32, AllocError> {
         self.gate.turn(rt, alloc)
-    }
-
-    fn wake_writer(&self) {
-        self.gate.wake_writer();
-    }
-
-    fn gives_up(&self) -> bool {
-        self.gate.gives_up()
-    }
-
-    fn tell_skipped(&self, count: u64) {
-        if let Some(teller) = &self.teller {
-            teller.tell_skipped(count);
-        }
     }
 
     fn tell_sent(&self, frames: &[u8]) {

@@ -20,15 +20,10 @@ pub fn bind_all<R: Net<Listener = TcpListener, Stream = TcpStream> + Eprint>(
     listens: &[String],
     control: &Option<ControlSettings>,
 ) -> Result<Option<Bound>, AllocError> {
-    let mut clients = Vec::with_capacity(alloc, listens.len())?;
-    for address in listens {
-        if let Some(listener) = listener_at(rt, address.as_str()) {
-            clients.push(listener)?;
-        }
-    }
-    let endpoint = match control {
-        Some(settings) => match listener_at(rt, settings.listen.as_str()) {
-            Some(listener) => Some((listener, rules_of(alloc, settings, listens.len())?)),
+    let clients = listeners_at(rt, alloc, listens)?;
+    let control = match control {
+        Some(settings) => match endpoint_at(rt, alloc, settings, listens.len())? {
+            Some(endpoint) => Some(endpoint),
             None => return Ok(None),
         },
         None => None,
@@ -36,10 +31,38 @@ pub fn bind_all<R: Net<Listener = TcpListener, Stream = TcpStream> + Eprint>(
     if clients.len() < listens.len() {
         return Ok(None);
     }
-    Ok(Some(Bound {
-        clients,
-        control: endpoint,
-    }))
+    Ok(Some(Bound { clients, control }))
+}
+
+/// The listeners that can be had at these addresses.
+fn listeners_at<R: Net<Listener = TcpListener, Stream = TcpStream> + Eprint>(
+    rt: &R,
+    alloc: Global,
+    addresses: &[String],
+) -> Result<Vec<TcpListener>, AllocError> {
+    let mut listeners = Vec::with_capacity(alloc, addresses.len())?;
+    for address in addresses {
+        if let Some(listener) = listener_at(rt, address.as_str()) {
+            listeners.push(listener)?;
+        }
+    }
+    Ok(listeners)
+}
+
+/// An endpoint's listener and rules, with so many clients; `None` where the listener can't be had.
+fn endpoint_at<R: Net<Listener = TcpListener, Stream = TcpStream> + Eprint>(
+    rt: &R,
+    alloc: Global,
+    settings: &ControlSettings,
+    clients: usize,
+) -> Result<Option<(TcpListener, Rules)>, AllocError> {
+    match listener_at(rt, settings.listen.as_str()) {
+        Some(listener) => {
+            let rules = rules_of(alloc, settings, clients)?;
+            Ok(Some((listener, rules)))
+        }
+        None => Ok(None),
+    }
 }
 
 /// A listener at this address; `None`, told with its address and reason, where it can't be had.
@@ -63,18 +86,7 @@ fn rules_of(
     settings: &ControlSettings,
     clients: usize,
 ) -> Result<Rules, AllocError> {
-    let mut hosts = Vec::new(alloc);
-    let listen = settings.listen.as_str();
-    hosts.push(Vec::from_slice(alloc, listen.as_bytes())?)?;
-    if let Some((_, port)) = listen.rsplit_once(':') {
-        for host in ["127.0.0.1", "localhost", "[::1]"] {
-            let name = format!(in alloc; "{host}:{port}")?;
-            hosts.push(Vec::from_slice(alloc, name.as_bytes())?)?;
-        }
-    }
-    if let Some(host) = &settings.host {
-        hosts.push(Vec::from_slice(alloc, host.as_bytes())?)?;
-    }
+    let hosts = hosts_of(alloc, settings)?;
     let token = match &settings.token {
         Some(token) => Some(Vec::from_slice(alloc, token.as_bytes())?),
         None => None,
@@ -84,4 +96,34 @@ fn rules_of(
         token,
         clients: u16::try_from(clients).unwrap_or(0),
     })
+}
+
+/// The names of an endpoint.
+fn hosts_of(alloc: Global, settings: &ControlSettings) -> Result<Vec<Vec<u8>>, AllocError> {
+    let mut hosts = Vec::new(alloc);
+    let listen = settings.listen.as_str();
+    push_copy(alloc, &mut hosts, listen)?;
+    if let Some((_, port)) = listen.rsplit_once(':') {
+        push_own(alloc, &mut hosts, port)?;
+    }
+    if let Some(host) = &settings.host {
+        push_copy(alloc, &mut hosts, host.as_str())?;
+    }
+    Ok(hosts)
+}
+
+/// Adds this machine's names, with this TCP port.
+fn push_own(alloc: Global, hosts: &mut Vec<Vec<u8>>, port: &str) -> Result<(), AllocError> {
+    for host in ["127.0.0.1", "localhost", "[::1]"] {
+        let name = format!(in alloc; "{host}:{port}")?;
+        push_copy(alloc, hosts, name.as_str())?;
+    }
+    Ok(())
+}
+
+/// Adds a name.
+fn push_copy(alloc: Global, hosts: &mut Vec<Vec<u8>>, name: &str) -> Result<(), AllocError> {
+    let copy = Vec::from_slice(alloc, name.as_bytes())?;
+    hosts.push(copy)?;
+    Ok(())
 }

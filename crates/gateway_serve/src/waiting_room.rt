@@ -259,6 +259,22 @@ impl Display for UpFrom {
     }
 }
 
+/// What a link is made of.
+type Link<'a, R> = Opened<SocketReader<'a>, SocketWriter, SocketCloser<'a, R>>;
+
+/// The link with who has said something, until `ends` is set; `None` where it can't be had.
+fn link_with<'a, R: Net<Listener = TcpListener, Stream = TcpStream> + Clock>(
+    rt: &'a R,
+    silent: Silent,
+    ends: &'a AtomicBool,
+) -> Option<Link<'a, R>> {
+    let Silent { stream, .. } = silent;
+    match stream.set_nonblocking(false) {
+        Ok(()) => link_of(rt, stream, ends).ok(),
+        Err(_) => None,
+    }
+}
+
 impl<'a, R: Net<Listener = TcpListener, Stream = TcpStream> + Clock + Eprint> Opener
     for WaitingRoom<'a, R> {
     ghost opened = { λ o. o.opened };
@@ -271,9 +287,7 @@ impl<'a, R: Net<Listener = TcpListener, Stream = TcpStream> + Clock + Eprint> Op
 
     type Closer = SocketCloser<'a, R>;
 
-    fn open(
-        &mut self,
-    ) -> Option<Result<Opened<SocketReader<'a>, SocketWriter, SocketCloser<'a, R>>, LinkFault>> {
+    fn open(&mut self) -> Option<Result<Link<'a, R>, LinkFault>> {
         if self.opened == u64::MAX {
             self.is_closed = true;
             return None;
@@ -282,22 +296,19 @@ impl<'a, R: Net<Listener = TcpListener, Stream = TcpStream> + Clock + Eprint> Op
             self.is_closed = true;
             return None;
         };
-        let Silent { stream, peer, .. } = silent;
         self.ends.store(false, Ordering::SeqCst);
         if self.flags.clients().load(Ordering::SeqCst) {
             self.is_closed = true;
             return None;
         }
-        if stream.set_nonblocking(false).is_err() {
-            return Some(Err(LinkFault::ReadFailed));
-        }
-        match link_of(self.rt, stream, self.ends) {
-            Ok(link) => {
+        let peer = silent.peer;
+        match link_with(self.rt, silent, self.ends) {
+            Some(link) => {
                 self.opened += 1;
                 self.tell_up(peer);
                 Some(Ok(link))
             }
-            Err(_) => Some(Err(LinkFault::ReadFailed)),
+            None => Some(Err(LinkFault::ReadFailed)),
         }
     }
 

@@ -1,48 +1,20 @@
-//! Streams that are changed at random, read and written by the engines of `link_io`: standard input has what was
-//! recorded, seeds and counts, standard output a line for each seed.
-//!
-//! What the engines give is compared with what a plain program makes of the whole stream. `README.md` has the lines.
+//! What carries events: engines of links, pages of the journal, threads that serve a line. Lines of standard input say
+//! what is tried of the first two, and what comes of it is printed; last what comes of the third. `README.md` has the
+//! lines.
 #![tactic(auto)]
 
-mod cases;
-mod changing;
-mod endless;
-mod gate;
-mod limited;
-mod plain_frames;
-mod plain_packets;
-mod reading;
-mod recorded;
-mod stepping;
-mod streams;
-mod tally;
-mod writing;
+mod journal;
+mod links;
+mod sections;
+mod serving;
 
-use cases::Cases;
-use std::alloc::Global;
-use std::io::{self, BufRead, BufReader, Write};
+use case_lines::take_lines;
+use sections::Cases;
+use std::io::{self, Write};
 
 fn main(rt: HostRuntime) -> io::Result<()> {
-    let mut cases = Cases::new(rt.alloc());
-    run(&rt, &mut cases)
-}
-
-/// Does what the lines of standard input say.
-fn run(rt: &HostRuntime, cases: &mut Cases) -> io::Result<()> {
     let alloc = rt.alloc();
-    for line in BufReader::new(alloc, rt.reader())?.lines(alloc) {
-        let line = line?;
-        take(alloc, cases, line.as_str(), &mut io::writer(rt))?;
-    }
-    Ok(())
-}
-
-/// Does what a line says, and prints what comes of it.
-fn take<W: Write>(alloc: Global, cases: &mut Cases, line: &str, output: &mut W) -> io::Result<()> {
-    if line.is_empty() || line.starts_with('#') {
-        return Ok(());
-    }
-    let mut shown = Vec::new(alloc);
-    cases.step(alloc, line.as_bytes(), &mut shown)?;
-    output.write_all(shown.as_slice())
+    let mut output = io::writer(&rt);
+    take_lines(alloc, &mut Cases::new(alloc), rt.reader(), &mut output)?;
+    output.write_all(serving::shown(&rt, alloc)?.as_slice())
 }

@@ -4,7 +4,7 @@ ghost use Rattle.std.specs.Option.{ForSome};
 ghost use Rattle.std.specs.Prelude.{◌≡◌, ◌<◌, ◌≤◌};
 
 /// When a day ends.
-#[derive(Clone, Copy, Debug)]
+#[derive(Clone, Copy)]
 pub struct DaySettings {
     /// At which time of day it ends, in milliseconds since midnight, UTC. `None`: where it is told to.
     pub ends: Option<u64>,

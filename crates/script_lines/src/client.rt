@@ -6,7 +6,7 @@ ghost use Rattle.script_lines.specs.Names.{client_index, client_number, port_of_
 use crate::port::Port;
 
 /// A client of the script. Clients 1 and 2 are at port 1, client 3 at port 2.
-#[derive(Clone, Copy, Debug, PartialEq, Eq)]
+#[derive(Clone, Copy)]
 pub enum Client {
     /// `C1`.
     First,

@@ -26,7 +26,7 @@ use ouch_codec::Outbound;
 use std::alloc::Global;
 
 /// What a line asks for.
-#[derive(Debug, Drop)]
+#[derive(Drop)]
 pub enum Line {
     /// Nothing: the line is empty.
     Empty,

@@ -2,7 +2,7 @@
 //!
 //! Source: SoupBinTCP 3.00, "Login Accepted Packet": a session of 10 bytes and a number of 20, padded left.
 
-ghost use Rattle.std.specs.Prelude.{◌≡◌, IfSome, is_some};
+ghost use Rattle.std.specs.Prelude.{◌≡◌, ◌-◌, ◌&&◌, ◌++◌, IfSome, is_some, length, nat_le, replicate};
 ghost use Rattle.script_lines.specs.Forms.{fits_forms};
 ghost use Rattle.script_lines.specs.Words.{words_of};
 ghost use Rattle.script_lines.specs.Login as spec;
@@ -43,15 +43,7 @@ fn session_of(word: &[u8]) -> Option<[u8; SESSION_BYTES]>
     ensures field { IfSome result (λ session. session ≡ spec.session_field word.now) }
     ensures form { is_some result ≡ spec.is_session word.now }
 {
-    if word.is_empty() {
-        return None;
-    }
-    if word.len() > SESSION_BYTES {
-        return None;
-    }
-    let mut session = [b' '; SESSION_BYTES];
-    session[SESSION_BYTES - word.len()..].copy_from_slice(word);
-    Some(session)
+    padded_left(word)
 }
 
 /// The field of a sequence number: a word of 1 to 20 digits, padded left with spaces. Whether 64 bits hold the number
@@ -61,16 +53,26 @@ fn sequence_number(word: &[u8]) -> Option<[u8; NUMBER_BYTES]>
     ensures field { IfSome result (λ number. number ≡ spec.number_field word.now) }
     ensures form { is_some result ≡ spec.is_sequence_number word.now }
 {
+    if are_digits(word) {
+        padded_left(word)
+    } else {
+        None
+    }
+}
+
+/// A word of 1 to `N` bytes, padded left with spaces to `N`; `None` of any other.
+fn padded_left<const N: usize>(word: &[u8]) -> Option<[u8; N]>
+    ensures field { IfSome result (λ field. field ≡ replicate (N - length word.now) 32 ++ word.now) }
+    ensures form { is_some result ≡ (nat_le 1 (length word.now) && nat_le (length word.now) N) }
+{
     if word.is_empty() {
         return None;
     }
-    if word.len() > NUMBER_BYTES {
+    if word.len() > N {
         return None;
     }
-    if !are_digits(word) {
-        return None;
-    }
-    let mut number = [b' '; NUMBER_BYTES];
-    number[NUMBER_BYTES - word.len()..].copy_from_slice(word);
-    Some(number)
+    let mut field = [b' '; N];
+    let bytes = &mut field[..];
+    bytes[N - word.len()..].copy_from_slice(word);
+    Some(field)
 }

@@ -75,13 +75,19 @@ fn read_terms(text: &[u8]) -> Option<Terms>
     ensures understood { is_some result ≡ fits_forms forms.terms_forms (words_of text.now) }
 {
     let (side_word, shares, symbol, price, time_in_force, state_word) = six_words(text)?;
+    let side = side(side_word)?;
+    let shares = share_count(shares)?;
+    let stock = stock(symbol)?;
+    let price = number32(price)?;
+    let time_in_force = number32(time_in_force)?;
+    let order_state = order_state(state_word)?;
     Some(Terms {
-        side: side(side_word)?,
-        shares: share_count(shares)?,
-        stock: stock(symbol)?,
-        price: number32(price)?,
-        time_in_force: number32(time_in_force)?,
-        order_state: order_state(state_word)?,
+        side,
+        shares,
+        stock,
+        price,
+        time_in_force,
+        order_state,
     })
 }
 
@@ -103,23 +109,32 @@ fn accepted(text: &[u8]) -> Option<Accepted>
     ensures understood { is_some result ≡ fits_forms forms.accepted_forms (words_of text.now) }
 {
     let (token_number, text) = first_word(text)?;
-    let terms = read_terms(text)?;
+    let token = token(token_number)?.bytes();
+    let order_reference = number(token_number)?;
+    let Terms {
+        side,
+        shares,
+        stock,
+        price,
+        time_in_force,
+        order_state,
+    } = read_terms(text)?;
     Some(Accepted {
         timestamp: 0,
-        token: token(token_number)?.bytes(),
-        side: terms.side,
-        shares: terms.shares,
-        stock: terms.stock,
-        price: terms.price,
-        time_in_force: terms.time_in_force,
+        token,
+        side,
+        shares,
+        stock,
+        price,
+        time_in_force,
         firm: *b"FIRM",
         display: b'Y',
-        order_reference: number(token_number)?,
+        order_reference,
         capacity: b'A',
         intermarket_sweep: b'N',
         minimum_quantity: 0,
         cross_type: b'N',
-        order_state: terms.order_state,
+        order_state,
         bbo_weight: b' ',
     })
 }
@@ -131,24 +146,34 @@ fn replaced(text: &[u8]) -> Option<Replaced>
 {
     let (new_number, text) = first_word(text)?;
     let (old_number, text) = first_word(text)?;
-    let terms = read_terms(text)?;
+    let previous_token = token(old_number)?.bytes();
+    let token = token(new_number)?.bytes();
+    let order_reference = number(new_number)?;
+    let Terms {
+        side,
+        shares,
+        stock,
+        price,
+        time_in_force,
+        order_state,
+    } = read_terms(text)?;
     Some(Replaced {
         timestamp: 0,
-        token: token(new_number)?.bytes(),
-        side: terms.side,
-        shares: terms.shares,
-        stock: terms.stock,
-        price: terms.price,
-        time_in_force: terms.time_in_force,
+        token,
+        side,
+        shares,
+        stock,
+        price,
+        time_in_force,
         firm: *b"FIRM",
         display: b'Y',
-        order_reference: number(new_number)?,
+        order_reference,
         capacity: b'A',
         intermarket_sweep: b'N',
         minimum_quantity: 0,
         cross_type: b'N',
-        order_state: terms.order_state,
-        previous_token: token(old_number)?.bytes(),
+        order_state,
+        previous_token,
         bbo_weight: b' ',
     })
 }

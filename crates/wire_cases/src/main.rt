@@ -1,28 +1,28 @@
-//! Asks the libraries of the wire and of values: a call and what it is asked in each line of standard input, the line
-//! and the answer to standard output. `README.md` has the calls.
+//! Asks what stands below the orders, part by part: a call in each line of standard input, the line with its answer to
+//! standard output; or cases of a session, of which each gets a verdict. `README.md` has the lines.
 #![tactic(auto)]
 
+mod ports;
+mod sections;
+mod sessions;
+mod settings;
 mod values;
 mod wire;
 
-use case_lines::{Answers, answer_lines, first_word};
+use case_lines::take_lines;
 use ouch_codec::one_answer;
-use std::alloc::{AllocError, Global};
+use sections::Cases;
+use soup_packets::{one_list_of_packets, one_spelling};
+use soup_session::links_end_by_a_close;
 use std::io;
 
 fn main(rt: HostRuntime) -> io::Result<()> {
-    // A law of what is called here. It does nothing.
+    // The laws of what is called here. They do nothing.
     one_answer();
-    answer_lines(rt.alloc(), &mut Calls, rt.reader(), &mut io::writer(&rt))
-}
-
-/// The calls of the libraries.
-#[derive(Clone, Copy)]
-struct Calls;
-
-impl Answers for Calls {
-    fn answer(&mut self, alloc: Global, line: &str) -> Result<String, AllocError> {
-        let (call, asked) = first_word(line);
-        values::answer(alloc, call, asked)
-    }
+    one_spelling();
+    one_list_of_packets();
+    links_end_by_a_close();
+    let alloc = rt.alloc();
+    let mut cases = Cases::new(alloc)?;
+    take_lines(alloc, &mut cases, rt.reader(), &mut io::writer(&rt))
 }

@@ -17,8 +17,8 @@ enum Place {
 
 /// Adds a line and its end; of `COUNT* TEXT` the text so many times, and no end of a line.
 ///
-/// In such a text a backslash with two hexadecimal digits is a byte, `@` is which time it is, from 1, and `#` the same
-/// in thirteen digits.
+/// In such a text a backslash with two hexadecimal digits is a byte, `@` is which time it is, from 1, `#` the same in
+/// thirteen digits, and `%` one more.
 pub fn push_said(text: &mut Vec<u8>, line: &[u8]) -> Result<(), AllocError> {
     let Some((count, said)) = repeated(line) else {
         return push_line(text, line);
@@ -52,6 +52,7 @@ fn push_next(text: &mut Vec<u8>, time: u64, place: Place, byte: u8) -> Result<Pl
             b'\\' => return Ok(Place::Escaped),
             b'@' => push_number(text, time, 1)?,
             b'#' => push_number(text, time, 13)?,
+            b'%' => push_number(text, time.saturating_add(1), 1)?,
             _ => text.push(byte)?,
         },
         Place::Escaped => return Ok(Place::Half(value_of(byte))),

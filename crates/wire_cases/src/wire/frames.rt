@@ -1,7 +1,7 @@
 //! Frames, one by one.
 
 use super::put_byte;
-use super::reader::{Form, Front};
+use super::reader::{Counts, Front, UnitReader, Way};
 use super::streams::{self, verdict};
 use case_lines::shown;
 use fix_fields::{is_value, split};
@@ -10,7 +10,7 @@ use std::alloc::{AllocError, Global};
 
 /// What a call on bytes of frames answers.
 pub fn answer(alloc: Global, call: &str, text: &str, bytes: &[u8]) -> Result<String, AllocError> {
-    if let Some(answer) = streams::answer(alloc, Form::Frames, call, bytes)? {
+    if let Some(answer) = streams::answer::<Framer>(alloc, call, bytes)? {
         return Ok(answer);
     }
     match call {
@@ -22,8 +22,83 @@ pub fn answer(alloc: Global, call: &str, text: &str, bytes: &[u8]) -> Result<Str
     }
 }
 
+impl UnitReader for Framer {
+    /// A heartbeat without a header.
+    fn unit() -> &'static [u8] {
+        b"8=FIX.4.4\x019=5\x0135=0\x0110=163\x01"
+    }
+
+    fn begun(alloc: Global) -> Framer {
+        Framer::new(alloc)
+    }
+
+    fn counts(&self) -> Counts {
+        Counts {
+            fed: self.fed(),
+            copied: self.copied(),
+            skipped: self.skipped(),
+        }
+    }
+
+    fn bring(&mut self, alloc: Global, piece: &[u8]) -> Result<(), AllocError> {
+        self.put(alloc, piece)
+    }
+
+    fn show_front(&mut self, text: &mut Vec<u8>) -> Result<Front, AllocError> {
+        match self.front() {
+            Ok(Some(view)) => {
+                text.extend_from_slice(view.text())?;
+                for tag in [35, 10, 34] {
+                    text.push(b' ')?;
+                    text.extend_from_slice(view.first(tag).unwrap_or(b"none"))?;
+                }
+                Ok(Front::Unit)
+            }
+            Ok(None) => Ok(Front::Nothing),
+            Err(FrameFault::TooLong) => Ok(Front::Over),
+            Err(FrameFault::NoMemory) => Err(AllocError),
+        }
+    }
+
+    fn go_on(&mut self) -> bool {
+        self.pass()
+    }
+
+    fn take(
+        &mut self,
+        alloc: Global,
+        way: Way,
+        piece: &[u8],
+        units: &mut Vec<u8>,
+    ) -> Result<bool, AllocError> {
+        let taken = match way {
+            Way::Fed => feed_frames(alloc, self, piece, units),
+            Way::Lent => lend_frames(alloc, self, piece, units),
+            Way::Moved => move_frames(alloc, self, piece, units),
+        };
+        match taken {
+            Ok(()) => Ok(true),
+            Err(FrameFault::TooLong) => Ok(false),
+            Err(FrameFault::NoMemory) => Err(AllocError),
+        }
+    }
+}
+
+/// Adds the text of each frame that a piece completes.
+fn feed_frames(
+    alloc: Global,
+    framer: &mut Framer,
+    piece: &[u8],
+    units: &mut Vec<u8>,
+) -> Result<(), FrameFault> {
+    for frame in framer.feed(alloc, piece)? {
+        units.extend_from_slice(frame.text())?;
+    }
+    Ok(())
+}
+
 /// Puts a piece, and adds the text of each frame that stands in front.
-pub fn lend_frames(
+fn lend_frames(
     alloc: Global,
     framer: &mut Framer,
     piece: &[u8],
@@ -41,7 +116,7 @@ pub fn lend_frames(
 }
 
 /// Puts a piece, and adds the text of each frame that is moved out.
-pub fn move_frames(
+fn move_frames(
     alloc: Global,
     framer: &mut Framer,
     piece: &[u8],
@@ -55,23 +130,6 @@ pub fn move_frames(
         }
     }
     Ok(())
-}
-
-/// What stands in front: its text and its values of 35, 10 and 34 are added.
-pub fn front(framer: &mut Framer, text: &mut Vec<u8>) -> Result<Front, AllocError> {
-    match framer.front() {
-        Ok(Some(view)) => {
-            text.extend_from_slice(view.text())?;
-            for tag in [35, 10, 34] {
-                text.push(b' ')?;
-                text.extend_from_slice(view.first(tag).unwrap_or(b"none"))?;
-            }
-            Ok(Front::Unit)
-        }
-        Ok(None) => Ok(Front::Nothing),
-        Err(FrameFault::TooLong) => Ok(Front::Over),
-        Err(FrameFault::NoMemory) => Err(AllocError),
-    }
 }
 
 /// Whether a frame is none any more where any of its bytes is any other.
@@ -142,7 +200,7 @@ fn framed(alloc: Global, body: &[u8]) -> Result<String, AllocError> {
 fn long(alloc: Global, bytes: usize) -> Result<String, AllocError> {
     let frame = frame(alloc, &long_fields(alloc, bytes)?)?;
     let (text, size) = (frame.as_slice(), frame.len());
-    if streams::is_read_in_each_size(alloc, Form::Frames, text)? {
+    if streams::is_read_in_each_size::<Framer>(alloc, text)? {
         return format!(in alloc; "{size} bytes, read");
     }
     match Framer::new(alloc).feed(alloc, text) {

@@ -1,6 +1,6 @@
 //! Packets, one by one.
 
-use super::reader::{Form, Front};
+use super::reader::{Counts, Front, UnitReader, Way};
 use super::streams;
 use case_lines::shown;
 use soup_packets::{Packet, PacketFault, Packets, Payload, WholeWire};
@@ -8,7 +8,7 @@ use std::alloc::{AllocError, Global};
 
 /// What a call on bytes of packets answers.
 pub fn answer(alloc: Global, call: &str, text: &str, bytes: &[u8]) -> Result<String, AllocError> {
-    if let Some(answer) = streams::answer(alloc, Form::Packets, call, bytes)? {
+    if let Some(answer) = streams::answer::<Packets>(alloc, call, bytes)? {
         return Ok(answer);
     }
     match call {
@@ -19,8 +19,80 @@ pub fn answer(alloc: Global, call: &str, text: &str, bytes: &[u8]) -> Result<Str
     }
 }
 
+impl UnitReader for Packets {
+    /// A heartbeat.
+    fn unit() -> &'static [u8] {
+        b"\x00\x01H"
+    }
+
+    fn begun(alloc: Global) -> Packets {
+        Packets::new(alloc)
+    }
+
+    fn counts(&self) -> Counts {
+        Counts {
+            fed: self.fed(),
+            copied: self.copied(),
+            skipped: 0,
+        }
+    }
+
+    fn bring(&mut self, alloc: Global, piece: &[u8]) -> Result<(), AllocError> {
+        self.put(alloc, piece)
+    }
+
+    fn show_front(&mut self, text: &mut Vec<u8>) -> Result<Front, AllocError> {
+        match self.front() {
+            Ok(Some(view)) => {
+                text.push(view.kind())?;
+                text.push(b' ')?;
+                text.extend_from_slice(view.payload())?;
+                Ok(Front::Unit)
+            }
+            Ok(None) => Ok(Front::Nothing),
+            Err(PacketFault::Empty) => Ok(Front::Over),
+            Err(PacketFault::NoMemory) => Err(AllocError),
+        }
+    }
+
+    fn go_on(&mut self) -> bool {
+        self.pass()
+    }
+
+    fn take(
+        &mut self,
+        alloc: Global,
+        way: Way,
+        piece: &[u8],
+        units: &mut Vec<u8>,
+    ) -> Result<bool, AllocError> {
+        let taken = match way {
+            Way::Fed => feed_packets(alloc, self, piece, units),
+            _ => lend_packets(alloc, self, piece, units),
+        };
+        match taken {
+            Ok(()) => Ok(true),
+            Err(PacketFault::Empty) => Ok(false),
+            Err(PacketFault::NoMemory) => Err(AllocError),
+        }
+    }
+}
+
+/// Adds the bytes of each packet that a piece completes.
+fn feed_packets(
+    alloc: Global,
+    packets: &mut Packets,
+    piece: &[u8],
+    units: &mut Vec<u8>,
+) -> Result<(), PacketFault> {
+    for packet in packets.feed(alloc, piece)? {
+        packet.put(units)?;
+    }
+    Ok(())
+}
+
 /// Puts a piece, and adds the bytes of each packet that stands in front.
-pub fn lend_packets(
+fn lend_packets(
     alloc: Global,
     packets: &mut Packets,
     piece: &[u8],
@@ -35,21 +107,6 @@ pub fn lend_packets(
         packets.pass();
     }
     Ok(())
-}
-
-/// What stands in front: its type and its payload are added.
-pub fn front(packets: &mut Packets, text: &mut Vec<u8>) -> Result<Front, AllocError> {
-    match packets.front() {
-        Ok(Some(view)) => {
-            text.push(view.kind())?;
-            text.push(b' ')?;
-            text.extend_from_slice(view.payload())?;
-            Ok(Front::Unit)
-        }
-        Ok(None) => Ok(Front::Nothing),
-        Err(PacketFault::Empty) => Ok(Front::Over),
-        Err(PacketFault::NoMemory) => Err(AllocError),
-    }
 }
 
 /// The type and the payload of the packet that bytes are, where it is written as the same bytes.

@@ -1,6 +1,6 @@
 //! Streams in pieces of each size and cut at each place, taken from a reader in each of its ways.
 
-use super::reader::{Form, Front, Reader, Way};
+use super::reader::{Counts, Front, UnitReader, Way};
 use case_lines::shown;
 use std::alloc::{AllocError, Global};
 
@@ -10,17 +10,16 @@ const WAYS: [Way; 3] = [Way::Fed, Way::Lent, Way::Moved];
 const SIZES: [usize; 5] = [1, 2, 3, 7, 4_096];
 
 /// What a call on a stream answers.
-pub fn answer(
+pub fn answer<U: UnitReader + Drop>(
     alloc: Global,
-    form: Form,
     call: &str,
     bytes: &[u8],
 ) -> Result<Option<String>, AllocError> {
     let answer = match call {
-        "reads" => reads(alloc, form, bytes)?,
-        "each-cut" => verdict(alloc, is_read_in_each_cut(alloc, form, bytes)?)?,
-        "thousand" => verdict(alloc, are_a_thousand_read(alloc, form, bytes)?)?,
-        "fronts" => fronts(alloc, form, bytes)?,
+        "reads" => reads::<U>(alloc, bytes)?,
+        "each-cut" => verdict(alloc, is_read_in_each_cut::<U>(alloc, bytes)?)?,
+        "thousand" => verdict(alloc, are_a_thousand_read::<U>(alloc, bytes)?)?,
+        "fronts" => fronts::<U>(alloc, bytes)?,
         _ => return Ok(None),
     };
     Ok(Some(answer))
@@ -36,38 +35,19 @@ pub fn verdict(alloc: Global, is_right: bool) -> Result<String, AllocError> {
 struct Seen {
     /// The bytes of all units, one behind another.
     units: Vec<u8>,
-    skipped: u64,
-    fed: u64,
-    copied: u64,
+    counts: Counts,
     /// Whether nothing more is taken, whatever comes.
     is_over: bool,
 }
 
-/// What came of a stream of which a reader was given all.
-fn what_came(
-    alloc: Global,
-    form: Form,
-    reader: &mut Reader,
-    units: Vec<u8>,
-) -> Result<Seen, AllocError> {
-    let (skipped, fed, copied) = (reader.skipped(), reader.fed(), reader.copied());
-    Ok(Seen {
-        units,
-        skipped,
-        fed,
-        copied,
-        is_over: is_over(alloc, form, reader)?,
-    })
-}
-
 /// Whether a reader takes nothing more, whatever comes: nothing, a whole unit, or a byte.
-fn is_over(alloc: Global, form: Form, reader: &mut Reader) -> Result<bool, AllocError> {
+fn is_over<U: UnitReader + Drop>(alloc: Global, reader: &mut U) -> Result<bool, AllocError> {
     let mut none = Vec::new(alloc);
-    for piece in &[b"".as_slice(), form.unit(), b"x"] {
+    for piece in &[b"".as_slice(), U::unit(), b"x"] {
         if reader.take(alloc, Way::Fed, piece, &mut none)? {
             return Ok(false);
         }
-        if reader.take(alloc, Way::Moved, piece, &mut none)? || reader.pass() {
+        if reader.take(alloc, Way::Moved, piece, &mut none)? || reader.go_on() {
             return Ok(false);
         }
     }
@@ -75,49 +55,56 @@ fn is_over(alloc: Global, form: Form, reader: &mut Reader) -> Result<bool, Alloc
 }
 
 /// What comes of a stream in pieces of one size.
-fn read(
+fn read<U: UnitReader + Drop>(
     alloc: Global,
-    form: Form,
     way: Way,
     stream: &[u8],
     size: usize,
 ) -> Result<Seen, AllocError> {
-    let mut reader = Reader::new(alloc, form);
+    let mut reader = U::begun(alloc);
     let mut units = Vec::new(alloc);
     for piece in stream.chunks(size.max(1)) {
         reader.take(alloc, way, piece, &mut units)?;
     }
-    what_came(alloc, form, &mut reader, units)
+    let (counts, is_over) = (reader.counts(), is_over(alloc, &mut reader)?);
+    Ok(Seen {
+        units,
+        counts,
+        is_over,
+    })
 }
 
 /// The units that a stream gives in pieces of each size and in each way, how many bytes are skipped, and whether it is
 /// over then; `otherwise` where two of them differ.
-fn reads(alloc: Global, form: Form, stream: &[u8]) -> Result<String, AllocError> {
-    let whole = read(alloc, form, Way::Fed, stream, stream.len())?;
+fn reads<U: UnitReader + Drop>(alloc: Global, stream: &[u8]) -> Result<String, AllocError> {
+    let whole = read::<U>(alloc, Way::Fed, stream, stream.len())?;
     for size in &SIZES {
         for way in &WAYS {
-            if !is_same(&whole, &read(alloc, form, *way, stream, *size)?) {
+            if !is_same(&whole, &read::<U>(alloc, *way, stream, *size)?) {
                 return String::from_str(alloc, "otherwise");
             }
         }
     }
     let units = shown(alloc, whole.units.as_slice())?;
     let end = if whole.is_over { ", over" } else { "" };
-    format!(in alloc; "[{units}] skipped {}{end}", whole.skipped)
+    format!(in alloc; "[{units}] skipped {}{end}", whole.counts.skipped)
 }
 
 /// Whether the same came of a stream.
 fn is_same(one: &Seen, other: &Seen) -> bool {
     one.units.as_slice() == other.units.as_slice()
-        && one.skipped == other.skipped
+        && one.counts.skipped == other.counts.skipped
         && one.is_over == other.is_over
 }
 
 /// Whether a stream of whole units gives them in three pieces, cut at any two places, in each way.
-fn is_read_in_each_cut(alloc: Global, form: Form, stream: &[u8]) -> Result<bool, AllocError> {
+fn is_read_in_each_cut<U: UnitReader + Drop>(
+    alloc: Global,
+    stream: &[u8],
+) -> Result<bool, AllocError> {
     for i in 0..=stream.len() {
         for j in i..=stream.len() {
-            if !is_read_cut(alloc, form, stream, i, j)? {
+            if !is_read_cut::<U>(alloc, stream, i, j)? {
                 return Ok(false);
             }
         }
@@ -126,9 +113,8 @@ fn is_read_in_each_cut(alloc: Global, form: Form, stream: &[u8]) -> Result<bool,
 }
 
 /// The same of these two places.
-fn is_read_cut(
+fn is_read_cut<U: UnitReader + Drop>(
     alloc: Global,
-    form: Form,
     stream: &[u8],
     i: usize,
     j: usize,
@@ -136,7 +122,7 @@ fn is_read_cut(
     let (front, last) = stream.split_at(j.min(stream.len()));
     let (first, middle) = front.split_at(i.min(front.len()));
     for way in &WAYS {
-        if !is_read_from(alloc, form, *way, &[first, middle, last], stream)? {
+        if !is_read_from::<U>(alloc, *way, &[first, middle, last], stream)? {
             return Ok(false);
         }
     }
@@ -144,36 +130,41 @@ fn is_read_cut(
 }
 
 /// Whether these pieces give these units, and nothing is skipped.
-fn is_read_from(
+fn is_read_from<U: UnitReader + Drop>(
     alloc: Global,
-    form: Form,
     way: Way,
     pieces: &[&[u8]],
     units: &[u8],
 ) -> Result<bool, AllocError> {
-    let mut reader = Reader::new(alloc, form);
+    let mut reader = U::begun(alloc);
     let mut given = Vec::new(alloc);
     for piece in pieces {
         reader.take(alloc, way, piece, &mut given)?;
     }
-    Ok(given.as_slice() == units && reader.skipped() == 0)
+    Ok(given.as_slice() == units && reader.counts().skipped == 0)
 }
 
 /// Whether a thousand of these units are read from pieces of each size and in each way: each byte is fed once and
 /// copied twice at most, and byte by byte once.
-fn are_a_thousand_read(alloc: Global, form: Form, unit: &[u8]) -> Result<bool, AllocError> {
+fn are_a_thousand_read<U: UnitReader + Drop>(
+    alloc: Global,
+    unit: &[u8],
+) -> Result<bool, AllocError> {
     let mut stream = Vec::new(alloc);
     for _ in 0..1_000u32 {
         stream.extend_from_slice(unit)?;
     }
-    is_read_in_each_size(alloc, form, stream.as_slice())
+    is_read_in_each_size::<U>(alloc, stream.as_slice())
 }
 
 /// The same of a stream.
-pub fn is_read_in_each_size(alloc: Global, form: Form, stream: &[u8]) -> Result<bool, AllocError> {
+pub fn is_read_in_each_size<U: UnitReader + Drop>(
+    alloc: Global,
+    stream: &[u8],
+) -> Result<bool, AllocError> {
     for size in &SIZES {
         for way in &WAYS {
-            if !is_whole(&read(alloc, form, *way, stream, *size)?, stream, *size) {
+            if !is_whole(&read::<U>(alloc, *way, stream, *size)?, stream, *size) {
                 return Ok(false);
             }
         }
@@ -185,36 +176,32 @@ pub fn is_read_in_each_size(alloc: Global, form: Form, stream: &[u8]) -> Result<
 fn is_whole(seen: &Seen, stream: &[u8], size: usize) -> bool {
     let fed = stream.len() as u64;
     seen.units.as_slice() == stream
-        && seen.skipped == 0
-        && seen.fed == fed
-        && seen.copied <= fed.saturating_mul(2)
-        && (size > 1 || seen.copied == fed)
+        && seen.counts.skipped == 0
+        && seen.counts.fed == fed
+        && seen.counts.copied <= fed.saturating_mul(2)
+        && (size > 1 || seen.counts.copied == fed)
 }
 
 /// What stands in front of a reader to which nothing came, and, one after another, of one to which a stream came; then
 /// how many bytes it was fed, and how many it skipped.
-fn fronts(alloc: Global, form: Form, stream: &[u8]) -> Result<String, AllocError> {
-    let mut reader = Reader::new(alloc, form);
+fn fronts<U: UnitReader + Drop>(alloc: Global, stream: &[u8]) -> Result<String, AllocError> {
+    let mut reader = U::begun(alloc);
     let mut answer = String::new(alloc);
     show_front(alloc, &mut reader, &mut answer)?;
-    reader.put(alloc, stream)?;
+    reader.bring(alloc, stream)?;
     show_fronts(alloc, &mut reader, stream.len(), &mut answer)?;
-    if is_over(alloc, form, &mut reader)? {
+    if is_over(alloc, &mut reader)? {
         answer.push_str(" for good;")?;
     }
-    write!(
-        answer,
-        " fed {}, skipped {}",
-        reader.fed(),
-        reader.skipped()
-    )?;
+    let Counts { fed, skipped, .. } = reader.counts();
+    write!(answer, " fed {fed}, skipped {skipped}")?;
     Ok(answer)
 }
 
 /// Shows what stands in front, at most so many times.
-fn show_fronts(
+fn show_fronts<U: UnitReader + Drop>(
     alloc: Global,
-    reader: &mut Reader,
+    reader: &mut U,
     most: usize,
     answer: &mut String,
 ) -> Result<(), AllocError> {
@@ -227,13 +214,17 @@ fn show_fronts(
 }
 
 /// Shows what stands in front, where it is the same three times, and passes it: whether a unit did.
-fn show_front(alloc: Global, reader: &mut Reader, answer: &mut String) -> Result<bool, AllocError> {
+fn show_front<U: UnitReader + Drop>(
+    alloc: Global,
+    reader: &mut U,
+    answer: &mut String,
+) -> Result<bool, AllocError> {
     let mut text = Vec::new(alloc);
-    let front = reader.front(&mut text)?;
+    let front = reader.show_front(&mut text)?;
     let is_same = stands_again(alloc, reader, front, text.as_slice())?
         && stands_again(alloc, reader, front, text.as_slice())?;
     let is_unit = front == Front::Unit;
-    if !is_same || reader.pass() != is_unit {
+    if !is_same || reader.go_on() != is_unit {
         answer.push_str("otherwise;")?;
         return Ok(false);
     }
@@ -247,12 +238,12 @@ fn show_front(alloc: Global, reader: &mut Reader, answer: &mut String) -> Result
 }
 
 /// Whether the same stands in front.
-fn stands_again(
+fn stands_again<U: UnitReader + Drop>(
     alloc: Global,
-    reader: &mut Reader,
+    reader: &mut U,
     front: Front,
     text: &[u8],
 ) -> Result<bool, AllocError> {
     let mut again = Vec::new(alloc);
-    Ok(reader.front(&mut again)? == front && again.as_slice() == text)
+    Ok(reader.show_front(&mut again)? == front && again.as_slice() == text)
 }

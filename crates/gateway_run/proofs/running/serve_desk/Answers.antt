@@ -17,8 +17,7 @@ use Rattle.gateway_run.specs.contracts.counted.CountedLinks as CountedLinks
 use Rattle.gateway_run.specs.contracts.run_opener.RunOpener as RunOpener
 use Rattle.gateway_run.specs.contracts.port_faults.PortLinks as PortLinks
 use Rattle.gateway_run.specs.contracts.run_gate.RunGate as RunGate
-use Rattle.gateway_run.specs.contracts.telling_gate.TellingGate as TellingGate
-use Rattle.gateway_run.proofs.Sent.{bell_send, opener_send, run_clock_send, run_gate_send, telling_send}
+use Rattle.gateway_run.proofs.Sent.{bell_send, opener_send, run_clock_send, run_gate_send}
 use Rattle.gateway_run.proofs.running.serve_desk.Goals as goal
 
 pub serve-requires-send-O : goal.serve-requires-send-O
@@ -39,12 +38,10 @@ serve-requires-send-G g c κs l =
     (b : BuildHasher.Ghosts S.Denot T.Denot) (h : Hasher.Ghosts T.Denot) → IsSend S
     → IsSend (InletGate.the_row q a W G K S T p w e t k b h)
     = λ q a p w e t K S T k b h s. inlet_gate_send W G p w e t bounds.send-A-Writer bounds.send-G K S T k b h s q a in
-    let told : (a : NamedLft) (X : RattleType) → IsSend X → IsSend (TellingGate.the_row a X R)
-    = λ a X x. telling_send a R bounds.sync-R X x in
     let looked : (a : NamedLft) (X K : RattleType) (k : DeskName.Ghosts K.Denot) → IsSend X
     → IsSend (RunGate.the_row a X K R k)
     = λ a X K k x. run_gate_send a K R k bounds.sync-R X x in
-    search (told, looked, gates, sendable, crosses) depth 100 fits 500000
+    search (looked, gates, sendable, crosses) depth 100 fits 500000
 
 pub serve-requires-send-C : goal.serve-requires-send-C
 serve-requires-send-C g c κs l = search (run_clock_send, c.type_bounds.sync-R, sendable) depth 40

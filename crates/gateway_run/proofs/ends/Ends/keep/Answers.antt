@@ -5,7 +5,7 @@ use Rattle.gateway_run.proofs.ends.Ends.keep.Goals as goal
 
 pub invariant_of-self-clause-puts_own : goal.invariant_of-self-clause-puts_own
 invariant_of-self-clause-puts_own g c = pushed _ _ _ _ c.push.ensures.items
-    (λ l. l.reader.gate.gate.gate.inlet.source ≡ source_of_peer l.peer) c.args.self.now.puts_own c.requires.puts_own
+    (λ l. l.reader.gate.gate.inlet.source ≡ source_of_peer l.peer) c.args.self.now.puts_own c.requires.puts_own
 
 pub invariant_of-self-clause-takes_own : goal.invariant_of-self-clause-takes_own
 invariant_of-self-clause-takes_own g c = pushed _ _ _ _ c.push.ensures.items
