@@ -18,13 +18,14 @@ from .command_line import STEPS_OF_COMMANDS
 from .counted_days import STEPS_OF_COUNTED_DAYS
 from .crowd import STEPS_OF_CROWDS
 from .links import STEPS_OF_LINKS
+from .promptness import STEPS_OF_PROMPTNESS
 from .script_days import STEPS_OF_SCRIPTS
 from .stage import Addresses, LeftOut, Stage, Wrong
 from .telling import STEPS_OF_TELLING
 
 # the longest first, so that the others go on beside them
 STEPS = (STEPS_OF_TELLING + STEPS_OF_CROWDS + STEPS_OF_LINKS + STEPS_OF_COUNTED_DAYS + STEPS_OF_COMMANDS
-         + STEPS_OF_SCRIPTS)
+         + STEPS_OF_SCRIPTS + STEPS_OF_PROMPTNESS)
 AT_ONCE = 6
 TRIES = 3
 

@@ -6,7 +6,7 @@ import socket
 import time
 
 from .peers import PATIENCE, holds_within
-from .stage import LeftOut, since
+from .stage import LeftOut, behind, since
 
 # in units of 1,024 bytes, as a shell's limits are
 GIB = 2 ** 20
@@ -116,10 +116,10 @@ def no_thread(stage):
     stage.set_up(1, control=False)
     begin = time.monotonic()
     # a thread has a GiB for its stack: there is room for the one that writes standard error, and for no other
-    gateway = stage.gateway("run", limits=f"ulimit -s {GIB} && ulimit -v {2 * GIB}")
+    gateway = stage.gateway("run", before=behind(f"ulimit -s {GIB} && ulimit -v {2 * GIB}"))
     stage.same("what it comes to", (1, "gateway: no thread\n"), (gateway.status(), gateway.errors.read_text()))
     stage.within("seconds", 9.9, since(begin), PATIENCE)
-    gateway = stage.gateway("run", limits=f"ulimit -s {GIB} && ulimit -v {GIB}")
+    gateway = stage.gateway("run", before=behind(f"ulimit -s {GIB} && ulimit -v {GIB}"))
     stage.same("what another comes to", (1, "gateway: no thread\n"), (gateway.status(), gateway.errors.read_text()))
 
 

@@ -5,10 +5,11 @@ import os
 import re
 import socket
 import struct
+import subprocess
 import time
 
-from .peers import PATIENCE, holds_within
-from .stage import LeftOut, since
+from .peers import PATIENCE, Market, holds_within
+from .stage import LeftOut, behind, since
 
 SECOND = 0.9  # a second, but for what clocks round
 X = b"x" * 10_000
@@ -316,6 +317,27 @@ def has_reports(client, begin, count):
     return client.wait(is_last, begin=begin) is not None
 
 
+def a_host_of_two_addresses(stage):
+    """a port whose market's host has two addresses is connected by the second where nobody listens at the first"""
+    _, (address,) = stage.set_up(1)
+    first, second, rest = stage.host.split(".", 2)
+    hosts = stage.folder / "hosts"
+    hosts.write_text(f"{stage.host} several\n{first}.{int(second) - 64}.{rest} several\n")
+    text = stage.settings.read_text()
+    stage.settings.write_text(text.replace(f'address = "{stage.host}:{address}"', f'address = "several:{address}"'))
+    # the gateway alone has these names
+    named = ["unshare", "--map-root-user", "--mount", *behind(f'mount --bind "{hosts}" /etc/hosts')]
+    try:
+        found = subprocess.run([*named, "getent", "ahostsv4", "several"], capture_output=True, text=True, check=True)
+    except (OSError, subprocess.CalledProcessError) as it:
+        raise LeftOut(f"names of its own: {it}") from it
+    *_, last = [line.split()[0] for line in found.stdout.splitlines()]
+    market = Market(last, address)
+    stage.markets.append(market)
+    stage.gateway("serve", before=named)
+    stage.holds("the port has a link", holds_within(lambda: len(market.came) == 1))
+
+
 def small_writes(stage):
     """what a link is told goes out at once, be it little: the system holds nothing back on a client's link or a port's"""
     (client,), (address,) = stage.set_up(1)
@@ -389,4 +411,4 @@ def seconds_of(text):
 
 STEPS_OF_LINKS = (a_client_that_reads_nothing, a_client_that_asks_for_too_much, a_port_is_connected_again, last_words,
                   closes_at_once, an_empty_packet, what_no_frame_is, an_absent_client, a_silent_day, time_passes_often,
-                  small_writes)
+                  small_writes, a_host_of_two_addresses)

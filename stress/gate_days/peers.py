@@ -135,6 +135,8 @@ class Market:
     def __init__(self, host, address, is_silent=False):
         self.where, self.is_silent = (host, address), is_silent
         self.said, self.orders, self.beats = [], [], []
+        # when each order came
+        self.asked = []
         # of each link: when it came, and how it ended, with `cut` where it ended here
         self.came, self.ends = [], []
         self.reference, self.cut_at, self.raw, self.is_over = 0, None, [], False
@@ -207,6 +209,7 @@ class Market:
         if payload[:1] != b"O":
             return
         it = ouch.asked(payload)
+        self.asked.append(time.monotonic())
         self.reference += 1
         said = [ouch.accepted(it, it.shares, it.price, self.reference, b"L")]
         if it.price != 10_000:

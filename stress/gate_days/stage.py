@@ -115,12 +115,10 @@ class Stage:
         self.markets.append(it)
         return it
 
-    def gateway(self, *words, errors=None, limits=None):
-        """A gateway by the settings that starts now: `serve`, or `run` with its words; behind what a shell does before,
-        as to set limits."""
-        words = [self.program, *words, "--settings", str(self.settings)]
-        if limits:
-            words = ["sh", "-c", f'{limits} && exec "$@"', "sh", *words]
+    def gateway(self, *words, errors=None, before=()):
+        """A gateway by the settings that starts now: `serve`, or `run` with its words; with words before it that set
+        something and then run what is behind them."""
+        words = [*before, self.program, *words, "--settings", str(self.settings)]
         self.gateways.append(Gateway(words, self.folder, errors))
         return self.gateways[-1]
 
@@ -146,6 +144,11 @@ class Stage:
     def told(self):
         """The last lines that gateways told, for whoever looks for what is wrong."""
         return [line for gateway in self.gateways for line in gateway.lines()[-8:]]
+
+
+def behind(command):
+    """Words that have a shell do this before it is what the words behind them say."""
+    return ["sh", "-c", f'{command} && exec "$@"', "sh"]
 
 
 def since(moment):
