@@ -178,10 +178,14 @@ def a_silent_day(stage):
     gateway = stage.gateway("serve")
     clients[0].connect().log_on()
     stage.holds("each port has a link", holds_within(lambda: all(len(it.came) == 1 for it in markets)))
-    before = processor(gateway)
+    before, threads = processor(gateway), threads_of(gateway)
     time.sleep(2)
     stage.same("a gateway that isn't told to end", None, gateway.process.poll())
     stage.within("seconds of a processor that it takes in two", 0, processor(gateway) - before, 1)
+    # one that spins has no rest, however little of a processor it gets
+    spins = [name for name, (ticks, rests) in threads_of(gateway).items() if name in threads
+             and ticks - threads[name][0] > 2 and rests - threads[name][1] < 5]
+    stage.same("threads that work without a rest", [], spins)
     stage.holds("each market hears its port", holds_within(lambda: all(it.beats for it in markets)))
     begin = time.monotonic()
     stage.same("how the gateway ends", (0, 0), stage.end(gateway, "--now"))
@@ -195,6 +199,19 @@ def processor(gateway):
     with open(f"/proc/{gateway.process.pid}/stat", encoding="ascii") as file:
         words = file.read().rpartition(")")[2].split()
     return (int(words[11]) + int(words[12])) / os.sysconf("SC_CLK_TCK")
+
+
+def threads_of(gateway):
+    """Of each thread of a gateway the ticks of a processor that it has taken, and how often it has slept."""
+    of = {}
+    for name in os.listdir(f"/proc/{gateway.process.pid}/task"):
+        folder = f"/proc/{gateway.process.pid}/task/{name}"
+        with open(f"{folder}/stat", encoding="ascii") as file:
+            words = file.read().rpartition(")")[2].split()
+        with open(f"{folder}/status", encoding="ascii") as file:
+            rests = re.search(r"^voluntary_ctxt_switches:\s+(\d+)", file.read(), re.MULTILINE)
+        of[name] = (int(words[11]) + int(words[12]), int(rests[1]))
+    return of
 
 
 def an_absent_client(stage):
