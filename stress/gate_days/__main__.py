@@ -24,7 +24,7 @@ from .stage import Addresses, LeftOut, Stage, Wrong
 from .telling import STEPS_OF_TELLING
 
 # the longest first, so that the others go on beside them
-STEPS = (STEPS_OF_TELLING + STEPS_OF_CROWDS + STEPS_OF_LINKS + STEPS_OF_COUNTED_DAYS + STEPS_OF_COMMANDS
+STEPS = (STEPS_OF_TELLING + STEPS_OF_COUNTED_DAYS + STEPS_OF_CROWDS + STEPS_OF_LINKS + STEPS_OF_COMMANDS
          + STEPS_OF_SCRIPTS + STEPS_OF_PROMPTNESS)
 AT_ONCE = 6
 TRIES = 3

@@ -113,6 +113,9 @@ def no_thread(stage):
     most = resource.getrlimit(resource.RLIMIT_STACK)[1]
     if most != resource.RLIM_INFINITY and most < GIB * 1024:
         raise LeftOut(f"stacks have {most} bytes here at most")
+    with open("/proc/sys/vm/overcommit_memory", encoding="ascii") as file:
+        if file.read().strip() == "2":
+            raise LeftOut("stacks that aren't used take memory here")
     stage.set_up(1, control=False)
     begin = time.monotonic()
     # a thread has a GiB for its stack: there is room for the one that writes standard error, and for no other

@@ -178,10 +178,14 @@ def a_silent_day(stage):
     gateway = stage.gateway("serve")
     clients[0].connect().log_on()
     stage.holds("each port has a link", holds_within(lambda: all(len(it.came) == 1 for it in markets)))
-    before = processor(gateway)
+    before, threads = processor(gateway), threads_of(gateway)
     time.sleep(2)
     stage.same("a gateway that isn't told to end", None, gateway.process.poll())
     stage.within("seconds of a processor that it takes in two", 0, processor(gateway) - before, 1)
+    # one that spins has no rest, however little of a processor it gets
+    spins = [name for name, (ticks, rests) in threads_of(gateway).items() if name in threads
+             and ticks - threads[name][0] > 2 and rests - threads[name][1] < 5]
+    stage.same("threads that work without a rest", [], spins)
     stage.holds("each market hears its port", holds_within(lambda: all(it.beats for it in markets)))
     begin = time.monotonic()
     stage.same("how the gateway ends", (0, 0), stage.end(gateway, "--now"))
@@ -195,6 +199,19 @@ def processor(gateway):
     with open(f"/proc/{gateway.process.pid}/stat", encoding="ascii") as file:
         words = file.read().rpartition(")")[2].split()
     return (int(words[11]) + int(words[12])) / os.sysconf("SC_CLK_TCK")
+
+
+def threads_of(gateway):
+    """Of each thread of a gateway the ticks of a processor that it has taken, and how often it has slept."""
+    of = {}
+    for name in os.listdir(f"/proc/{gateway.process.pid}/task"):
+        folder = f"/proc/{gateway.process.pid}/task/{name}"
+        with open(f"{folder}/stat", encoding="ascii") as file:
+            words = file.read().rpartition(")")[2].split()
+        with open(f"{folder}/status", encoding="ascii") as file:
+            rests = re.search(r"^voluntary_ctxt_switches:\s+(\d+)", file.read(), re.MULTILINE)
+        of[name] = (int(words[11]) + int(words[12]), int(rests[1]))
+    return of
 
 
 def an_absent_client(stage):
@@ -341,10 +358,11 @@ def a_host_of_two_addresses(stage):
 def small_writes(stage):
     """what a link is told goes out at once, be it little: the system holds nothing back on a client's link or a port's"""
     (client,), (address,) = stage.set_up(1)
-    market = stage.market(address)
+    stage.market(address)
     gateway = stage.gateway("serve")
-    stage.holds("the client is logged on", client.connect().log_on() is not None)
-    stage.holds("the port has a link", holds_within(lambda: len(market.came) == 1))
+    client.connect().log_on()
+    client.order(b"A1")
+    stage.holds("an order is filled: both have links", client.told(b"A1", b"F") is not None)
     held = {}
     for it in links_of(gateway.process.pid):
         with it:
@@ -373,32 +391,30 @@ def links_of(process):
 
 
 def time_passes_often(stage):
-    """five clients that log on a fifth of a second apart each hear a Heartbeat within half a second of their second"""
+    """five clients that log on a fifth of a second apart each hear the gateway within half a second of their second"""
     clients, _ = stage.set_up(5)
     stage.gateway("serve")
     longest = []
     # a machine that is slow for half a second makes one late: then once more
     while len(longest) < 8 and not (longest and min(longest) <= 1.5):
         longest.append(longest_silence(stage, clients))
-    stage.within("the longest until a Heartbeat, at best", SECOND, min(longest), 1.5)
+    stage.within("the longest until a Heartbeat or a Test Request, at best", SECOND, min(longest), 1.5)
 
 
 def longest_silence(stage, clients):
-    """Has clients log on, a fifth of a second apart, and log out: the longest time from a Logon to a Heartbeat, by the
-    gateway's clock."""
+    """Has clients log on, a fifth of a second apart: the longest time from a Logon to a Heartbeat or a Test Request, by
+    the gateway's clock."""
     spent = []
     for client in clients:
         client.interval, client.sent, client.frames = 1, 0, []
         stage.holds(f"{client.name} is logged on", client.connect().log_on((141, b"Y")) is not None)
         time.sleep(0.2)
     for client in clients:
-        heard = client.wait(lambda frame: frame.kind == b"0")
-        stage.holds(f"{client.name} hears a Heartbeat", heard is not None)
+        heard = client.wait(lambda frame: frame.kind in (b"0", b"1"))
+        stage.holds(f"{client.name} hears the gateway", heard is not None)
         began = next(it for it in client.frames if it.kind == b"A")
         spent.append(seconds_of(heard[52].decode()) - seconds_of(began[52].decode()))
     for client in clients:
-        client.send(b"5")
-        client.ending()
         client.close()
     return max(spent)
 
