@@ -60,6 +60,16 @@ impl<'a> Prompt for Kept<'a> {
 /// The pen of the first client's outlet.
 type FirstPen<'w, 'a, K> = OutletPen<Kept<'w>, OutletGate<'a, K, BuildHasherDefault<FoldHasher>>>;
 
+/// The gate of the first client's reader.
+type FirstGate<'p, 'w, 'a, K> = InletGate<
+    'p,
+    'a,
+    Kept<'w>,
+    OutletGate<'a, K, BuildHasherDefault<FoldHasher>>,
+    K,
+    BuildHasherDefault<FoldHasher>,
+>;
+
 /// The first client logs on: shows what its reader's gate stepped, whether its writer's bell rang before the gate was
 /// to wake it, and then; last what is on its stream, though no writer was at work.
 pub fn show_pen<R: Wait + Clock>(
@@ -157,7 +167,10 @@ fn turn_with<'p, 'w, 'a, K: DeskName, R: Wait + Clock>(
 }
 
 /// Puts that the client's link is up, and its Logon, at a gate that takes both.
-fn put_logon<G: Gate>(alloc: Global, gate: &mut G) -> Result<(), AllocError> {
+fn put_logon<K: DeskName>(
+    alloc: Global,
+    gate: &mut FirstGate<'_, '_, '_, K>,
+) -> Result<(), AllocError> {
     for (word, text) in [("client_up", b"".as_slice()), ("client", LOGON)] {
         if let Some(event) = event_of(alloc, word, 1, HERE, text)? {
             let _ = gate.put(event);
@@ -168,11 +181,11 @@ fn put_logon<G: Gate>(alloc: Global, gate: &mut G) -> Result<(), AllocError> {
 
 /// Has a gate turn, and shows how many steps that made, and whether the first outlet's bell rang before the gate was to
 /// wake its writer, and behind that.
-fn show_turn<K: DeskName, G: Gate, R: Wait + Clock>(
+fn show_turn<K: DeskName, R: Wait + Clock>(
     rt: &R,
     alloc: Global,
     shared: &Shared<K>,
-    gate: &mut G,
+    gate: &mut FirstGate<'_, '_, '_, K>,
     shown: &mut Vec<u8>,
 ) -> Result<(), AllocError> {
     show(shown, "steps", u64::from(gate.turn(rt, alloc)?))?;
