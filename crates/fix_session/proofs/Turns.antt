@@ -37,7 +37,7 @@ leaves-more gate client h old at call new is l =
     (Leaves-more gate client h old at call l)
 
 pub headline-more : (gate client : List ℕ) (h : SessionHistory) (old : State) (at : ℕ) (call : Call) (new : State)
-    → new ≡ (step old at call).state → Leaves gate client h old → SessionHeadline (turn_after old at call ∷ h)
+    → new ≡ (step old at call).state → Leaves gate client h old → SessionHeadline gate client (turn_after old at call ∷ h)
 headline-more gate client h old at call new is l =
     Leaves-headline gate client (turn_after old at call ∷ h) new (leaves-more gate client h old at call new is l)
 
@@ -49,7 +49,7 @@ one-more gate client h old at call turn new m l = leaves-more gate client h old 
 
 pub one-more-headline : (gate client : List ℕ) (h : SessionHistory) (old : State) (at : ℕ) (call : Call)
     (turn : SessionTurn) (new : State)
-    → Meets old (step old at call) turn new → Leaves gate client h old → SessionHeadline (turn_after old at call ∷ h)
+    → Meets old (step old at call) turn new → Leaves gate client h old → SessionHeadline gate client (turn_after old at call ∷ h)
 one-more-headline gate client h old at call turn new m l = headline-more gate client h old at call new m.state l
 
 -- a call that meets the table moves the numbers no further than the law says

@@ -226,7 +226,7 @@ impl Session {
             → Leaves gate client (turn_after self.old.session at (call_of_body body.now) ∷ h) self.new.session) }
         ensures headline { OnOk result ((gate client : List ℕ) (h : SessionHistory)
             → Leaves gate client h self.old.session
-            → SessionHeadline (turn_after self.old.session at (call_of_body body.now) ∷ h)) }
+            → SessionHeadline gate client (turn_after self.old.session at (call_of_body body.now) ∷ h)) }
         ensures numbers { OnOk result (MovesLittle 1 self.old.session self.new.session) }
         ensures settled { self.new.settled ≡ self.old.settled }
         ensures err { OnErr result (self.new ≡ self.old) }
@@ -251,7 +251,7 @@ impl Session {
             → Leaves gate client (turn_after self.old.session at (OnMessage m.now) ∷ h) self.new.session) }
         ensures headline { OnOk result ((gate client : List ℕ) (h : SessionHistory)
             → Leaves gate client h self.old.session
-            → SessionHeadline (turn_after self.old.session at (OnMessage m.now) ∷ h)) }
+            → SessionHeadline gate client (turn_after self.old.session at (OnMessage m.now) ∷ h)) }
         ensures numbers { OnOk result (MovesLittle 2 self.old.session self.new.session) }
         ensures settled { self.new.settled ≡ self.old.settled }
         ensures err { OnErr result (self.new ≡ self.old) }
@@ -268,7 +268,7 @@ impl Session {
             → Leaves gate client (turn_after self.old.session at OnTick ∷ h) self.new.session) }
         ensures headline { OnOk result ((gate client : List ℕ) (h : SessionHistory)
             → Leaves gate client h self.old.session
-            → SessionHeadline (turn_after self.old.session at OnTick ∷ h)) }
+            → SessionHeadline gate client (turn_after self.old.session at OnTick ∷ h)) }
         ensures numbers { OnOk result (MovesLittle 1 self.old.session self.new.session) }
         ensures settled { self.new.settled ≡ self.old.settled }
         ensures err { OnErr result (self.new ≡ self.old) }
@@ -303,7 +303,7 @@ impl Session {
             → Leaves gate client (turn_after self.old.session at (OnLink up) ∷ h) self.new.session }
         ensures headline { (gate client : List ℕ) (h : SessionHistory)
             → Leaves gate client h self.old.session
-            → SessionHeadline (turn_after self.old.session at (OnLink up) ∷ h) }
+            → SessionHeadline gate client (turn_after self.old.session at (OnLink up) ∷ h) }
         ensures numbers { MovesLittle 0 self.old.session self.new.session }
         ensures settled { self.new.settled ≡ self.old.settled }
     {

@@ -1,6 +1,6 @@
 //! Links over TCP: an acceptor for a client's links, a connector for a port's, and the clocks of their threads.
 //!
-//! No contract says what a socket does; days of a gateway that runs show it, and `link_tests` of the clock.
+//! No contract says what a socket does; days of a gateway that runs show it, and `link_cases` of the clock.
 #![tactic(auto)]
 
 mod acceptor;

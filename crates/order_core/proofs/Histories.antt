@@ -1,9 +1,10 @@
 -- One more event of a run.
 use Rattle.std.proofs.Common.{◌≡◌, ℕ, suc, zero, ◌+◌, ◌<◌, ◌≤◌, Bool, true, false, List, [], ◌∷◌, ◌++◌, length, take}
-use Rattle.std.proofs.Common.{get_or, refl, sym, ap, ◌∙◌, arith, length-take-le}
+use Rattle.std.proofs.Common.{get_or, refl, sym, ap, ◌∙◌, subst, arith, length-take-le}
 use Rattle.std.specs.Prelude.{◌&&◌}
 use Rattle.std.specs.List.{list_all}
 use Rattle.std.proofs.lemmas.List.{take_more}
+use Rattle.outstanding.specs.order_law.Headline.{EachWith}
 use Rattle.outstanding.specs.order_law.History.{OrderHistory}
 use Rattle.order_core.specs.declared.runs.Event.{Event}
 use Rattle.order_core.specs.declared.runs.Outcome.{Outcome}
@@ -26,6 +27,22 @@ history-more events outcomes i e o inside is same =
     ap (λ xs. run_history xs (outcomes ++ o ∷ []))
     (take_more events i e inside ∙ ap (λ x. take i events ++ x ∷ []) (sym is))
     ∙ onto-push (take i events) outcomes e o [] (omega (arith, length-take-le i events (omega arith), same))
+
+each-push : {X Y : Type 0} (P : X → Y → Type 0) (xs : List X) (ys : List Y) (x : X) (y : Y) → EachWith P xs ys → P x y
+    → EachWith P (xs ++ x ∷ []) (ys ++ y ∷ [])
+each-push P [] [] x y each more = (more, tt)
+each-push P [] (z ∷ ys) x y each more = absurd each
+each-push P (w ∷ xs) [] x y each more = absurd each
+each-push P (w ∷ xs) (z ∷ ys) x y each more = (each.0, each-push P xs ys x y each.1 more)
+
+-- each event so far has its outcome, and one more
+pub each-more : (P : Event → Outcome → Type 0) (events : List Event) (outcomes : List Outcome) (i : ℕ) (e : Event)
+    (o : Outcome) → i < length events → e ≡ get_or events i e → EachWith P (take i events) outcomes → P e o
+    → EachWith P (take (i + 1) events) (outcomes ++ o ∷ [])
+each-more P events outcomes i e o inside is each more =
+    subst (λ (xs : List Event). EachWith P xs (outcomes ++ o ∷ []))
+    (sym (take_more events i e inside ∙ ap (λ x. take i events ++ x ∷ []) (sym is)))
+    (each-push P (take i events) outcomes e o each more)
 
 pub length-onto : (events : List Event) (outcomes : List Outcome) (before : OrderHistory)
     → length (outcomes_onto events outcomes before) ≤ length events + length before

@@ -1,5 +1,5 @@
 -- Runs of the order core: a list of events, and what came of each.
-use Rattle.std.specs.Prelude.{◌≡◌, ℕ, Bool, true, ◌&&◌, nat_le, List, [], ◌∷◌, map}
+use Rattle.std.specs.Prelude.{◌≡◌, ℕ, Bool, true, ◌&&◌, nat_le, List, [], ◌∷◌, map, Some, None}
 use Rattle.std.specs.List.{list_all}
 use Rattle.order_ledger.specs.fix_types.Application.{body_fields, message_fields}
 use Rattle.order_ledger.specs.market_messages.ouch_codec.Inbound.{inbound_bytes}
@@ -36,6 +36,11 @@ outcomes_onto (e ∷ events) (o ∷ outcomes) before = outcomes_onto events outc
 
 abbrev pub run_history : List Event → List Outcome → law.OrderHistory
 run_history events outcomes = outcomes_onto events outcomes []
+
+-- it says whom its bodies are for: the client whose message came; of a payload nobody where there are none
+abbrev pub IsFor : Event → Outcome → Type 0
+IsFor (Came client message port) outcome = outcome.client ≡ Some client
+IsFor (Heard port payload) outcome = outcome.bodies.items ≡ [] → outcome.client ≡ None
 
 -- its client is one of so many
 abbrev pub is_known_client : ℕ → Event → Bool

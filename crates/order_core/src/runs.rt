@@ -1,12 +1,12 @@
 //! Whole runs: a list of events, from no order on.
 
-ghost use Rattle.std.specs.Prelude.{◌≡◌, ◌∷◌, true, Some, List, length, map, IfOk, OnErr};
+ghost use Rattle.std.specs.Prelude.{◌≡◌, ◌∷◌, [], true, Some, None, List, length, map, IfOk, OnErr};
 ghost use Rattle.order_ledger.specs.fix_types.Application.{message_fields};
 ghost use Rattle.order_ledger.specs.market_messages.ouch_codec.Values.{decoded};
-ghost use Rattle.outstanding.specs.order_law.Headline.{Headline};
+ghost use Rattle.outstanding.specs.order_law.Headline.{EachWith, Headline};
 ghost use Rattle.outstanding.specs.order_law.History.{Came, Heard, OrderHistory, Terms};
 ghost use Rattle.order_machine.specs.Runs.{IsTableRun, NumbersLeft};
-ghost use Rattle.order_core.specs.Runs.{AreKnown, run_history, is_known_client, outcome_turn, turn_of_outcome};
+ghost use Rattle.order_core.specs.Runs.{AreKnown, IsFor, run_history, is_known_client, outcome_turn, turn_of_outcome};
 ghost use Rattle.order_ledger.specs.to_market.PortsSeen.{port_seen};
 ghost use Rattle.order_ledger.specs.to_market.TermsSeen.{terms_seen};
 ghost use Rattle.order_core.specs.State.{IsAfterTurns, core_clients, CoreHasRoom, IsCoreClient, CoreKeeps};
@@ -35,7 +35,7 @@ pub enum Event {
 /// The result of an event.
 #[derive(Drop)]
 pub struct Outcome {
-    /// Whom the bodies are for; `None` where there are none.
+    /// Whom the bodies are for: the client whose message came; of a payload `None` where there are none.
     pub client: Option<u16>,
     /// For that client, in order.
     pub bodies: Vec<AppBody>,
@@ -59,6 +59,7 @@ pub fn step<S: BuildHasher + Drop>(
     ensures headline { IfOk result (λ outcome. (terms : List Terms) (before : OrderHistory)
         → NumbersLeft before → IsAfterTurns terms before core.old
         → Headline terms (turn_of_outcome event.now outcome ∷ before)) }
+    ensures whom { IfOk result (λ outcome. IsFor event.now outcome) }
     ensures keeps { CoreKeeps core.old core.new }
     ensures settled { core.new.settled ≡ core.old.settled }
     ensures err { OnErr result (core.new ≡ core.old) }
@@ -90,6 +91,7 @@ fn client_outcome<S: BuildHasher + Drop>(
     ensures headline { IfOk result (λ outcome. (terms : List Terms) (before : OrderHistory)
         → NumbersLeft before → IsAfterTurns terms before core.old
         → Headline terms (outcome_turn (Came client (message_fields message.now) (port_seen port)) outcome ∷ before)) }
+    ensures whom { IfOk result (λ outcome. outcome.client ≡ Some client) }
     ensures keeps { CoreKeeps core.old core.new }
     ensures settled { core.new.settled ≡ core.old.settled }
     ensures err { OnErr result (core.new ≡ core.old) }
@@ -117,6 +119,7 @@ fn market_outcome<S: BuildHasher + Drop>(
     ensures headline { IfOk result (λ outcome. (terms : List Terms) (before : OrderHistory)
         → NumbersLeft before → IsAfterTurns terms before core.old
         → Headline terms (outcome_turn (Heard port (decoded payload.now)) outcome ∷ before)) }
+    ensures whom { IfOk result (λ outcome. outcome.bodies.items ≡ [] → outcome.client ≡ None) }
     ensures keeps { CoreKeeps core.old core.new }
     ensures settled { core.new.settled ≡ core.old.settled }
     ensures err { OnErr result (core.new ≡ core.old) }
@@ -141,7 +144,7 @@ fn market_outcome<S: BuildHasher + Drop>(
 /// The results of these events, one after another from no order on, for clients with these terms.
 ///
 /// Each outcome is exactly what the table's step gives, and after each of them the headline holds of all turns so far,
-/// whatever the messages and payloads are.
+/// whatever the messages and payloads are. Each says whom its bodies are for.
 pub fn run(
     alloc: Global,
     terms: &[ClientTerms],
@@ -154,6 +157,7 @@ pub fn run(
         (run_history events.now outcomes.items)) }
     ensures headline { IfOk result (λ outcomes. Headline (map terms_seen terms.now)
         (run_history events.now outcomes.items)) }
+    ensures whom { IfOk result (λ outcomes. EachWith IsFor events.now outcomes.items) }
 {
     let mut core = OrderCore::new(alloc, terms)?;
     let mut outcomes = Vec::new(alloc);

@@ -1,9 +1,7 @@
 -- What rows make of the expected number.
-use Rattle.std.proofs.Common.{length, ◌≡◌, ℕ, ◌+◌, ◌==◌, Bool, true, false, ◌&&◌, ◌||◌, List, [], ◌∷◌, ◌++◌, refl, ap}
-use Rattle.std.proofs.Common.{◌∙◌, arith, Some, None, Option, is_some, is_none, unwrap_or, if◌then◌else◌, nat_lt}
+use Rattle.std.proofs.Common.{length, ◌≡◌, ℕ, ◌+◌, ◌==◌, Bool, true, false, ◌&&◌, List, [], ◌∷◌, ◌++◌, refl}
+use Rattle.std.proofs.Common.{◌∙◌, Some, None, Option, is_some, is_none, unwrap_or, if◌then◌else◌, nat_lt}
 use Rattle.std.proofs.Common.{bytes_eq, codes}
-use Rattle.std.proofs.lemmas.Bool.Decides.{nat_tests}
-use Rattle.std.proofs.lemmas.Slice.Eq.{bytes_eq-Decides}
 use Rattle.fix_framing.proofs.fix_fields.Tags.{and_parts}
 use Rattle.fix_framing.specs.fix_fields.declared.session_refusal.SessionRefusal.{SessionRefusal}
 use Rattle.fix_framing.specs.fix_fields.Field.{Message, text, is, has}
@@ -16,7 +14,8 @@ use Rattle.session_law.specs.Table.{answer_by, message_number, is_type, is_plain
 use Rattle.session_law.specs.Table.{resend_answer, ask_again, asked_number, expected_rows, logged_on_rows, fault_acts}
 use Rattle.session_law.specs.Table.{refused_acts, reject_act, log_out}
 use Rattle.session_law.specs.Expected.{by_message, is_gap_fill}
-use Rattle.session_law.proofs.Rows.{Firsts, first-holds}
+use Rattle.session_law.proofs.Rows.{Firsts, first-holds, and-right, below, above, same, other, or-parts, not-gap}
+use Rattle.session_law.proofs.Rows.{faultless}
 
 abbrev pub move : Act → ℕ → ℕ
 move Grow e = e + 1
@@ -35,35 +34,6 @@ moves (a ∷ done) e = moves done (move a e)
 moves-append : (a b : List Act) (e : ℕ) → moves (a ++ b) e ≡ moves b (moves a e)
 moves-append [] b e = refl
 moves-append (x ∷ a) b e = moves-append a b (move x e)
-
--- ---- tests
-
-and-right : (a b : Bool) → (a && b) ≡ false → a ≡ true → b ≡ false
-and-right true b h k = h
-and-right false b h k = absurd (cc)
-
-below : (n e : ℕ) → nat_lt n e ≡ true → (n == e) ≡ false
-below n e h = grind (arith, nat_tests)
-
-above : (n e : ℕ) → nat_lt e n ≡ true → (n == e) ≡ false
-above n e h = grind (arith, nat_tests)
-
-same : (n e : ℕ) → nat_lt n e ≡ false → nat_lt e n ≡ false → (n == e) ≡ true
-same n e h k = grind (arith, nat_tests)
-
--- a text that is another one
-other : (t x y : List ℕ) → bytes_eq t x ≡ true → bytes_eq x y ≡ false → bytes_eq t y ≡ false
-other t x y h k = ap (λ (z : List ℕ). bytes_eq z y) ((bytes_eq-Decides t x).0 h) ∙ k
-
-or-parts : (a b c : Bool) (P : Type 0) → (a || (b || c)) ≡ true → (a ≡ true → P) → (b ≡ true → P) → (c ≡ true → P) → P
-or-parts true b c P h f g k = f refl
-or-parts false true c P h f g k = g refl
-or-parts false false c P h f g k = k h
-
-not-gap : (a b c : Bool) → b ≡ false → (a && (b && c)) ≡ false
-not-gap true true c h = absurd (cc)
-not-gap true false c h = refl
-not-gap false b c h = refl
 
 -- ---- a resend, and a gap
 
@@ -106,10 +76,6 @@ refused-stays : (o : Option SessionRefusal) (m : Message) (e : ℕ) → moves (r
 refused-stays None m e = refl
 refused-stays (Some r) m e = refl
 
-none-of : (o : Option SessionRefusal) → is_some o ≡ false → is_none o ≡ true
-none-of None h = refl
-none-of (Some r) h = absurd (cc)
-
 abbrev Takes : Message → ℕ → Answer → Type 0
 Takes m e a = (a.logon ≡ None) × (moves a.acts (e + 1)
     ≡ (if is_gap_fill m then unwrap_or (short_number 36 m) 0 else e + 1))
@@ -136,9 +102,9 @@ expected-moves s m e =
             λ _. (
               λ h. ((resend-stays s m).0, (resend-stays s m).1 (e + 1) ∙ no-gap m to (e + 1) (typed m (codes "2") h refl)),
               λ _. (
-                λ h. (refl, rw (none-of (first_fault m) n1, h) refl),
+                λ h. (refl, rw (faultless (first_fault m) n1, h) refl),
                 λ n6. (
-                  λ h. (refl, rw (none-of (first_fault m) n1, n6) refl),
+                  λ h. (refl, rw (faultless (first_fault m) n1, n6) refl),
                   λ n7. (
                     λ _. (refl, no-gap m to (e + 1) n7),
                     λ _. (

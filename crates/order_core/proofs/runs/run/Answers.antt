@@ -4,9 +4,9 @@ use Rattle.outstanding.specs.order_law.History.{OrderHistory}
 use Rattle.order_machine.specs.Runs.{NumbersLeft}
 use Rattle.order_machine.proofs.Running.{headline-of}
 use Rattle.order_core.specs.State.{OrderCoreState, IsAfterTurns, core_clients, core_numbers}
-use Rattle.order_core.specs.Runs.{run_history, is_known_client}
+use Rattle.order_core.specs.Runs.{IsFor, run_history, is_known_client}
 use Rattle.order_ledger.specs.to_market.TermsSeen.{terms_seen}
-use Rattle.order_core.proofs.Histories.{history-more, length-onto, passes-at}
+use Rattle.order_core.proofs.Histories.{each-more, history-more, length-onto, passes-at}
 use Rattle.order_core.proofs.Standing.{after-by_parts}
 use Rattle.order_core.proofs.Turns.{parts-of}
 use Rattle.order_core.proofs.runs.run.Goals as goal
@@ -14,6 +14,7 @@ use Rattle.order_core.proofs.runs.run.Goals as goal
 pub loop-event-init : goal.loop-event-init
 loop-event-init c = record {
   after = c.in_ok-core.ensures.after;
+  whom = rw c.new-outcomes.ensures.items tt;
   same = ap length c.new-outcomes.ensures.items;
   clients = c.in_ok-core.ensures.clients;
   issued = omega (arith, c.in_ok-core.ensures.issued);
@@ -50,6 +51,9 @@ loop-event-preserved c = record {
       (after-by_parts (map terms_seen c.args.terms.now) before c.loop-event.core c.settle.new.self
       (ap (λ (o : OrderCoreState). o.table) (sym c.settle.ensures))
       (ap (λ (o : OrderCoreState). o.kept) (sym c.settle.ensures)) c.loop-event.invariant.after)));
+  whom = rw c.in_ok-push.ensures.items (each-more IsFor c.args.events.now c.loop-event.outcomes.items
+      c.loop-event.event-index c.event-item.result c.in_ok-outcome.outcome c.loop-event-test.true c.event-item.is
+      c.loop-event.invariant.whom c.in_ok-outcome.ensures.whom);
   same = rw (c.in_ok-push.ensures.items, length-append) (omega (arith, c.loop-event.invariant.same));
   clients = c.step.ensures.keeps.clients ∙ ap core_clients c.settle.ensures ∙ c.loop-event.invariant.clients;
   issued =
@@ -75,3 +79,7 @@ returns-clause-headline c =
     headline-of (map terms_seen c.args.terms.now)
     (run_history c.args.events.now c.loop-event.outcomes.items) c.loop-event.core.table
     (omega (arith, length-onto c.args.events.now c.loop-event.outcomes.items [], c.requires.numbers)) leaves
+
+pub returns-clause-whom : goal.returns-clause-whom
+returns-clause-whom c =
+    rw (take_all c.loop-event.event-index c.args.events.now (omega arith)) at c.loop-event.invariant.whom
