@@ -96,7 +96,8 @@ second_cancel_unsent =
     (report_out 1 6 (codes "35=8|37=1|11=A3|41=A1|17=4|150=6|39=6|55=INTC|54=1|38=300|44=23.45|151=300|14=0|6=0") ∷ []))
     ∷ []) histories.day_entered_and_accepted
 
-asked_twice : asked second_cancel_unsent ≡ SaysNew (token_text 1) ∷ SaysCancel (token_text 1) ∷ SaysCancel (token_text 1) ∷ []
+asked_twice : asked second_cancel_unsent
+    ≡ SaysNew (token_text 1) ∷ SaysCancel (token_text 1) ∷ SaysCancel (token_text 1) ∷ []
 unfolding client_answer port_answer port_state report_issued digits stamp_text calendar_day day_of_years day_of_months
     price quantity amount amount_of within scaled fraction worth worth_of last_digits
 asked_twice = refl

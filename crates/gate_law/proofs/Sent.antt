@@ -478,8 +478,13 @@ module _ (s : Settings) (p : ℕ) (v : Lists) (asked_so_far : List Asked) (sent 
       e = PortPacket q link at packet
 
       heard : (fault : Option ℕ) → ShownNow b (asked_since e) (since e)
-          → Shown (record { event = Heard q (decoded payload); client = addressee b; bodies = bodies b; sends = [];
-          fault = fault } ∷ v.turns) (asked_since e ++ []) (since e ++ sent_by p b)
+          → Shown (record {
+            event = Heard q (decoded payload);
+            client = addressee b;
+            bodies = bodies b;
+            sends = [];
+            fault = fault;
+          } ∷ v.turns) (asked_since e ++ []) (since e ++ sent_by p b)
       heard fault now = record {
         one_for_one = now.one_for_one;
         left = heard-left q (decoded payload) (addressee b) (bodies b) fault (asked_since e ++ []) now.left;

@@ -25,6 +25,8 @@ pub record Keeps (old new : TableState) : Type 0 where
   pub clients : clients new ≡ clients old
   pub issued : ledger_numbers new ≤ ledger_numbers old + 3
 
--- numbers are left for one call more, and for far more than any day has
-abbrev pub HasRoom : TableState → Type 0
-HasRoom s = ledger_numbers s < 2 ^ 60
+-- of each kind numbers are left for one call more, and for far more than any day has
+pub record HasRoom (s : TableState) : Type 0 where
+  pub orders : s.order_ids < 2 ^ 60
+  pub reports : s.exec_ids < 2 ^ 60
+  pub tokens : length s.tokens < 2 ^ 60

@@ -29,7 +29,11 @@ step-requires-clause-client c =
 pub step-requires-clause-room : goal.step-requires-clause-room
 step-requires-clause-room c =
     let still : core_numbers c.settle.new.self ≡ core_numbers c.loop-event.core = ap core_numbers c.settle.ensures in
-    omega (arith, c.loop-event.invariant.issued, still, c.requires.numbers, c.loop-event-test.true)
+    record {
+      orders = omega (arith, c.loop-event.invariant.issued, still, c.requires.numbers, c.loop-event-test.true);
+      reports = omega (arith, c.loop-event.invariant.issued, still, c.requires.numbers, c.loop-event-test.true);
+      tokens = omega (arith, c.loop-event.invariant.issued, still, c.requires.numbers, c.loop-event-test.true);
+    }
 
 pub loop-event-preserved : goal.loop-event-preserved
 loop-event-preserved c = record {
