@@ -46,6 +46,7 @@ impl<K: DeskName> Model for Outlet<K> {
 
 impl<K: DeskName> Outlet<K> {
     ghost use Rattle.std.specs.Prelude.{◌≡◌, ◌<◌, ◌++◌, [], ◌∷◌, Some, IfSome, IfNone, IsSome, length, slice_get};
+    ghost use mathlib.Core.List.{IsPrefix};
     ghost use Rattle.rtrb.specs.Ring.{received, known_items};
     ghost use Rattle.desk_ends.specs.Rings.{NamedOutlet, consumer_ring, took_at};
 
@@ -86,6 +87,15 @@ impl<K: DeskName> Outlet<K> {
         ensures succeeds { 0 < length self.old.ahead → IsSome result }
     {
         self.consumer.pop().ok()
+    }
+
+    /// How many lists lie in the queue, after a look.
+    pub fn queued(&mut self) -> usize
+        ensures same { (self.new.at ≡ self.old.at) × (self.new.to ≡ self.old.to) × (self.new.took ≡ self.old.took) }
+        ensures looked { IsPrefix self.old.ahead self.new.ahead }
+        ensures value { result ≡ length self.new.ahead }
+    {
+        self.consumer.slots()
     }
 
     /// Ends the outlet, and says what was taken.

@@ -13,6 +13,9 @@ use std::sync::Wait;
 /// With this many lists in an outlet's queue a client's messages wait.
 const FULL: u32 = 1_024;
 
+/// With this many lists there what its market says waits too, and behind it what that says to others.
+const HELD: usize = 2_048;
+
 /// The handle of a writer: takes output through an outlet. Once it has taken as many lists in a row as make a client's
 /// messages wait, it owes the desk as many turns, since so many may wait for that room: it makes one at a time, until
 /// one steps nothing. Nothing is put through it.
@@ -105,6 +108,11 @@ impl<'a, K: DeskName, S: BuildHasher + Drop> Gate for OutletGate<'a, K, S> {
             self.owed.saturating_sub(1)
         };
         Ok(turned.steps)
+    }
+
+    /// Whether so many lists lie in its outlet's queue that what its market says waits for room.
+    fn holds_up_others(&mut self) -> bool {
+        self.outlet.queued() >= HELD
     }
 }
 

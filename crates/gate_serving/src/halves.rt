@@ -213,7 +213,8 @@ where
         unreachable!()
     }
 
-    /// Writes a link until it is closed, faulted or stopped. Unless it was stopped, its stream is shut down.
+    /// Writes a link until it is closed, faulted or stopped. Unless it was stopped, its stream is shut down; behind a
+    /// fault at once, once what is queued for it was dropped, so that no event waits for its room any more.
     fn write_link<R: Wait>(
         &mut self,
         rt: &R,
@@ -229,8 +230,13 @@ where
         let end = self
             .worker
             .write(rt, alloc, peer, link, steps, stream, stop);
-        if end != Ok(WriterEnd::Stopped) {
-            closer.close(stop);
+        match end {
+            Ok(WriterEnd::Stopped) => {}
+            Ok(WriterEnd::Closed) => closer.close(stop),
+            Err(_) => {
+                self.worker.let_go(rt, alloc);
+                closer.cut(stop);
+            }
         }
         end
     }

@@ -51,6 +51,12 @@ pub trait Closer {
     /// Lets the peer get what was written, and ends the reader's wait for the stream: as soon as the peer has closed
     /// too, or after a while. `is_read` is set once the link's reader has ended.
     fn close(&mut self, is_read: &AtomicBool);
+
+    /// Ends the stream of a link that can't be written, or whose peer takes nothing: the peer is not waited for. By
+    /// default it does what `close` does.
+    fn cut(&mut self, is_read: &AtomicBool) {
+        self.close(is_read);
+    }
 }
 
 /// How the reader and the writer of a link ended.

@@ -64,6 +64,10 @@ impl<'a, G: Gate, R: Clock + Eprint> Gate for TellingGate<'a, G, R> {
         self.gate.turn(rt, alloc)
     }
 
+    fn holds_up_others(&mut self) -> bool {
+        self.gate.holds_up_others()
+    }
+
     fn tell_sent(&self, frames: &[u8]) {
         if let Some(teller) = &self.teller {
             tell_frames(teller, self.alloc, frames);

@@ -51,6 +51,15 @@ pub trait Gate {
         false
     }
 
+    /// Whether so much lies in the queue from which this handle takes that others wait: then a peer that takes nothing
+    /// is given up sooner. Waits for nobody, takes no memory. By default nobody waits.
+    fn holds_up_others(&mut self) -> bool
+        ensures none_put { was_put self.new ≡ was_put self.old }
+        ensures none_taken { was_taken self.new ≡ was_taken self.old }
+    {
+        false
+    }
+
     /// Reports how many bytes of a link were part of no message: at the first, whenever they have doubled, and at the
     /// end of the stream. By default it does nothing.
     fn tell_skipped(&self, _count: u64) {}

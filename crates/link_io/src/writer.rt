@@ -1,7 +1,9 @@
 //! The writer of a link: takes lists of output and writes what they have for the link.
 
 ghost use Rattle.std.specs.Prelude.{◌≡◌, ◌≤◌, ◌+◌, ◌-◌, ◌++◌, ◌∷◌, ◌||◌, not, nat_lt, ℕ, List, [], None, Err, length};
-ghost use Rattle.std.specs.Prelude.{true, false, IfOk, IfErr, OnOk, OnErr, MatchResult};
+ghost use Rattle.std.specs.Prelude.{true, false, IfOk, IfErr, OnOk, OnErr, MatchResult, Some};
+ghost use Rattle.std.specs.Io.{WritesAtMost};
+ghost use Rattle.std.specs.Io.KnownBytes.{WriteAppends};
 ghost use Rattle.gate_events.specs.Seen.{link_out_seen};
 ghost use Rattle.link_io.specs.Limits.{refusal, limit_after};
 ghost use Rattle.link_io.specs.Answered.{FailedWrite, TriesOnce};
@@ -17,6 +19,7 @@ use crate::streams::{Prompt, Sink};
 use gate_events::{LinkOut, closes_link};
 use short_list::ShortList;
 use std::alloc::{AllocError, Global};
+use std::io::{self, ErrorKind};
 use std::marker::Model;
 
 /// The most lists that are joined before they are written.
@@ -24,6 +27,9 @@ const MOST_LISTS: u32 = 64;
 
 /// With this many bytes to be written no further list is taken.
 const ENOUGH_BYTES: usize = 16_384;
+
+/// How often a write is tried that only took too long, where the link holds up nobody.
+const MOST_WRITES: u32 = 20;
 
 /// What a step of a writer did.
 #[derive(Clone, Copy, Debug, PartialEq, Eq)]
@@ -128,9 +134,12 @@ impl BatchWriter {
     /// Takes the lists that are queued, and writes what they have for this link. Up to 64 are taken, none behind 16,384
     /// bytes or behind one that closes this link.
     ///
-    /// `WriteFailed` if a write fails or takes no byte: of what was to be written the first bytes went out. `StepLimit`
-    /// at the last step, which writes nothing. After `NoMemory` nothing was written in the step: what was taken is
-    /// kept, and the next step goes on with it. After any other fault each step answers the same and does nothing.
+    /// `WriteFailed` if a write fails or takes no byte: of what was to be written the first bytes went out. One that
+    /// only took too long is tried again, up to twenty times, unless the link holds up others
+    /// (`Gate::holds_up_others`).
+    /// `StepLimit` at the last step, which writes nothing. After `NoMemory` nothing was written in the step: what was
+    /// taken is kept, and the next step goes on with it. After any other fault each step answers the same and does
+    /// nothing.
     pub fn step<W: Sink, G: Gate>(
         &mut self,
         alloc: Global,
@@ -250,7 +259,7 @@ impl BatchWriter {
         ensures none_put { G.was_put gate.new ≡ G.was_put gate.old }
     {
         self.refill(alloc, gate)?;
-        write_out(stream, self.pending.as_slice())?;
+        write_out(stream, self.pending.as_slice(), gate)?;
         self.sent.tell(gate, self.pending.as_slice(), 0);
         Ok(self.told())
     }
@@ -363,13 +372,15 @@ fn append_told(bytes: &mut Vec<u8>, link: u64, out: &LinkOut) -> Result<(), Allo
 }
 
 /// Writes all of these bytes. A write that takes none of some has failed.
-fn write_out<W: Sink>(stream: &mut W, bytes: &[u8]) -> Result<(), LinkFault>
+fn write_out<W: Sink, G: Gate>(stream: &mut W, bytes: &[u8], gate: &mut G) -> Result<(), LinkFault>
     ensures sends { Sends result bytes.now (W.contents stream.old) (W.contents stream.new) }
     ensures failed { OnErr result (FailedWrite W.did_write stream.new) }
+    ensures none_put { G.was_put gate.new ≡ G.was_put gate.old }
+    ensures none_taken { G.was_taken gate.new ≡ G.was_taken gate.old }
 {
     let mut rest = bytes;
     while !rest.is_empty() {
-        match stream.write_once(rest) {
+        match write_patiently(stream, rest, gate) {
             Ok(0) | Err(_) => return Err(LinkFault::WriteFailed),
             Ok(count) => {
                 let (_, left) = rest.split_at(count);
@@ -378,4 +389,36 @@ fn write_out<W: Sink>(stream: &mut W, bytes: &[u8]) -> Result<(), LinkFault>
         }
     }
     Ok(())
+}
+
+#[tactic(auto, using(crate::proofs::Sending::kept_writes))]
+/// Writes once. A write that only took too long is tried again, unless the link holds up others.
+fn write_patiently<W: Sink, G: Gate>(
+    stream: &mut W,
+    bytes: &[u8],
+    gate: &mut G,
+) -> io::Result<usize>
+    ensures bound { WritesAtMost result bytes.now }
+    ensures bytes { WriteAppends (W.contents stream.old) (W.contents stream.new) result bytes.now }
+    ensures took { IfOk result (λ count. (old : W) × W.did_write old bytes.now (Some count) stream.new) }
+    ensures failed { OnErr result ((old : W) × W.did_write old bytes.now None stream.new) }
+    ensures none_put { G.was_put gate.new ≡ G.was_put gate.old }
+    ensures none_taken { G.was_taken gate.new ≡ G.was_taken gate.old }
+{
+    for _ in 1..MOST_WRITES {
+        match stream.write_once(bytes) {
+            Ok(count) => return Ok(count),
+            Err(error) => {
+                if !took_long(error.kind()) || gate.holds_up_others() {
+                    return Err(error);
+                }
+            }
+        }
+    }
+    stream.write_once(bytes)
+}
+
+/// Whether a write that failed so only took too long.
+fn took_long(kind: ErrorKind) -> bool {
+    matches!(kind, ErrorKind::WouldBlock | ErrorKind::TimedOut)
 }

@@ -18,8 +18,9 @@ fn longest_prompt_write() -> Duration {
     Duration::from_millis(10)
 }
 
-/// How many prompt writes a write makes before it fails: five seconds of them.
-const MOST_TRIES: u32 = 500;
+/// How many prompt writes a write makes before it fails: a quarter of a second of them. A link's writer tries it again
+/// as long as its link holds up nobody (`BatchWriter::step` of `link_io`).
+const MOST_TRIES: u32 = 25;
 
 /// How often, and how long each time, a closer looks whether the peer has closed too.
 const LOOKS: u32 = 100;
@@ -85,8 +86,8 @@ impl<'a> Read for SocketReader<'a> {
     }
 }
 
-/// Writes a stream. A write fails if the peer reads nothing for five seconds, a prompt one if it reads nothing for ten
-/// milliseconds.
+/// Writes a stream. A write fails if the peer reads nothing for a quarter of a second, a prompt one if it reads nothing
+/// for ten milliseconds.
 #[derive(Drop)]
 pub struct SocketWriter {
     stream: TcpStream,
@@ -120,7 +121,7 @@ impl Prompt for SocketWriter {
 }
 
 /// Shuts a stream down: for writing at once, so that the peer gets what was written; for reading as soon as the peer
-/// has closed too, or after a second.
+/// has closed too, or after a second. Cut, it is shut down for both at once; the system still sends what was written.
 #[derive(Drop)]
 pub struct SocketCloser<'a, R> {
     rt: &'a R,
@@ -136,6 +137,10 @@ impl<'a, R: Clock> Closer for SocketCloser<'a, R> {
             }
             thread::sleep(self.rt, look());
         }
+        let _ = self.stream.shutdown(Shutdown::Both);
+    }
+
+    fn cut(&mut self, _is_read: &AtomicBool) {
         let _ = self.stream.shutdown(Shutdown::Both);
     }
 }
