@@ -1,5 +1,6 @@
 pub mod Moves
 mod Arranging
+pub mod Bits
 mod Roomy
 mod Telling
 pub use Rattle.desk_ends.proofs as desk_ends

@@ -1,6 +1,6 @@
 //! All queues of a desk, from the desk's side.
 
-ghost use Rattle.std.specs.Prelude.{◌≡◌};
+ghost use Rattle.std.specs.Prelude.{◌≡◌, ◌≢◌, ◌<◌, ◌^◌, ◌==◌, [], Some, None, ℕ, if◌then◌else◌};
 
 use crate::places::{client_number, place_of_client, place_of_port, port_number};
 use crate::said::Said;
@@ -250,8 +250,13 @@ impl Side {
     }
 }
 
+#[tactic(auto, using(crate::proofs::Bits::one_bit))]
 /// The bit of a place, if a list for it has something.
-fn bit(place: Option<usize>, told: &Told) -> u128 {
+fn bit(place: Option<usize>, told: &Told) -> u128
+    ensures some { (at : ℕ) → place ≡ Some at → at < 128 → told.now ≢ [] → result ≡ 2 ^ at }
+    ensures nothing { told.now ≡ [] → result ≡ 0 }
+    ensures nobody { place ≡ None → result ≡ 0 }
+{
     match place {
         Some(place) if place < 128 && !told.as_slice().is_empty() => 1u128 << place,
         _ => 0,
@@ -260,7 +265,10 @@ fn bit(place: Option<usize>, told: &Told) -> u128 {
 
 /// Of the bits of a client and a port that one batch has output for: the urgent one, and the one that may wait, which
 /// is the client's if the port has output.
-fn prompt_and_waiting(client: u128, port: u128) -> (u128, u128) {
+fn prompt_and_waiting(client: u128, port: u128) -> (u128, u128)
+    ensures prompt { result.0 ≡ (if port == 0 then client else port) }
+    ensures waiting { result.1 ≡ (if port == 0 then 0 else client) }
+{
     if port == 0 {
         (client, 0)
     } else {
