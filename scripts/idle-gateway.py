@@ -1,7 +1,8 @@
 #!/usr/bin/env python3
-"""idle-gateway.py PROGRAM [SECONDS]: runs a built `gateway` with 64 clients on 16 ports on loopback, all logged on, and says which part
-of a processor it takes over so many seconds, 30, in which nothing happens but heartbeats, how fast its memory grows meanwhile, and how
-long it takes to end."""
+"""idle-gateway.py PROGRAM [SECONDS [BEFORE]]: runs a built `gateway` with 64 clients on 16 ports on loopback, all logged on, and says which
+part of a processor it takes over so many seconds, 30, in which nothing happens but heartbeats, how fast its memory grows meanwhile, and how
+long it takes to end. BEFORE says how many idle seconds lie before these, none if left out: each place of a queue is touched first as the
+first event or output comes to it, so a queue of 2,112 places that gets one a second grows for 35 minutes, and not after that."""
 import os, socket, subprocess, sys, tempfile, threading, time
 
 PORTS, CLIENTS = 16, 64
@@ -47,6 +48,7 @@ def memory(pid):
 
 
 seconds = float(sys.argv[2]) if len(sys.argv) > 2 else 30.0
+ahead = float(sys.argv[3]) if len(sys.argv) > 3 else 0.0
 markets = [listener() for _ in range(PORTS)]
 for it in markets:
     threading.Thread(target=serve, args=(it,), daemon=True).start()
@@ -69,12 +71,24 @@ with tempfile.NamedTemporaryFile("w", suffix=".toml") as file:
         assert b"35=A" in it.recv(4096)
     with open(f"/proc/{ran.pid}/status") as status:
         threads = next(line.split()[1] for line in status if line.startswith("Threads:"))
-    time.sleep(1)
+    sent = 1
+
+    def idle(length):
+        """So many seconds, in which each client sends a Heartbeat at times."""
+        global sent
+        until = time.time() + length
+        while (left := until - time.time()) > 0:
+            time.sleep(min(left, 20))
+            sent += 1
+            for i, it in enumerate(streams):
+                it.sendall(frame("0", sent, f"C{i + 1}", ""))
+
+    idle(1 + ahead)
     before, held = used(ran.pid), memory(ran.pid)
-    time.sleep(seconds)
+    idle(seconds)
     part, grown = (used(ran.pid) - before) / seconds, (memory(ran.pid) - held) / seconds
     begin = time.time()
     for i, it in enumerate(streams):
-        it.sendall(frame("5", 2, f"C{i + 1}", ""))
+        it.sendall(frame("5", sent + 1, f"C{i + 1}", ""))
     out = ran.communicate(timeout=60)[0].decode()
     print(f"{threads} threads; idle: {part:.3f} of a processor, {grown * 3600 / 1e6:.1f} MB an hour; ended after {time.time() - begin:.1f} s, status {ran.returncode}: {out.strip()}")

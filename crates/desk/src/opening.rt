@@ -95,6 +95,7 @@ pub fn open_desk<K: DeskName, S: BuildHasher + Drop>(
         → slice_get r.1.items k ≡ Some x → (x.at ≡ k) × (x.put ≡ []) × (x.free ≡ 1_024))) }
     ensures outlets { IfOk result (λ r. (length r.2.items ≡ length K.outlets) × ((d : ℕ) (x : Taking)
         → slice_get r.2.items d ≡ Some x → (x.at ≡ d) × (x.took ≡ []))) }
+    ensures bells { IfOk result (λ r. vec_len r.0.bells ≡ length K.outlets) }
 {
     let Parts {
         recorded,

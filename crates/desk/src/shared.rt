@@ -1,6 +1,6 @@
 //! A desk that threads share.
 
-ghost use Rattle.std.specs.Prelude.{◌≡◌, List};
+ghost use Rattle.std.specs.Prelude.{◌≡◌, List, vec_len};
 ghost use Rattle.desk_ends.specs.Rings.{Done};
 ghost use Rattle.desk_steps.specs.Settling.{AreReleased};
 
@@ -69,7 +69,7 @@ impl<K: DeskName, S: BuildHasher + Drop> Drop for Shared<K, S> {
 }
 
 impl<K: DeskName, S: BuildHasher + Drop> Shared<K, S> {
-    ghost use Rattle.std.specs.Prelude.{◌≡◌, IfOk, IfErr};
+    ghost use Rattle.std.specs.Prelude.{◌≡◌, IfOk, IfErr, vec_len};
     ghost use Rattle.gate_law.specs.Holds.{Holds};
     ghost use Rattle.desk_steps.specs.gate_journal.Kept.{turns};
     ghost use Rattle.desk_steps.specs.Agreeing.{AreNamed};
@@ -79,7 +79,9 @@ impl<K: DeskName, S: BuildHasher + Drop> Shared<K, S> {
     ghost use Rattle.turn_log.specs.Kept.{HasAll};
 
     /// This desk, to be shared, with the bells of its outlets.
-    pub(crate) fn new(desk: Desk<K, S>, bells: Vec<Parker>) -> Shared<K, S> {
+    pub(crate) fn new(desk: Desk<K, S>, bells: Vec<Parker>) -> Shared<K, S>
+        ensures { vec_len result.bells ≡ vec_len bells }
+    {
         Shared {
             desk: Mutex::new(desk),
             wanted: AtomicBool::new(false),
