@@ -14,7 +14,8 @@ use Rattle.orders.specs.order_law.Told as law
 use Rattle.order_machine.specs.OrderRecord.{OrderRecord, ToldTrade, after_message, with_trade_broken, fill_of}
 use Rattle.order_machine.specs.OrderRecord.{record_life, mark, shown_as, stands_told}
 use Rattle.order_machine.proofs.Finding.{find-map, map-map}
-use Rattle.orders.specs.declared.order.ToldTrade as table
+use Rattle.orders.specs.order_trades.declared.told_trade.ToldTrade as table
+use Rattle.orders.specs.order_trades.Marking.{told_stands}
 use Rattle.orders.specs.Changes.{changed_by, with_quantities}
 use Rattle.orders.specs.declared.change.Change.TheVariants as changes
 use Rattle.orders.specs.Seen.{told_seen}
@@ -28,12 +29,9 @@ trade_of t = t.trade
 
 -- ---- what stands
 
-abbrev pub is_standing : ℕ → table.ToldTrade → Bool
-is_standing match_number t = stands_told match_number (told_seen t)
-
 -- of the table's trades, and of those of its record
 pub standing-seen : (n : ℕ) (ts : List table.ToldTrade)
-    → option_map told_seen (find (is_standing n) (reverse ts)) ≡ find (stands_told n) (reverse (map told_seen ts))
+    → option_map told_seen (find (told_stands n) (reverse ts)) ≡ find (stands_told n) (reverse (map told_seen ts))
 standing-seen n ts = sym (find-map told_seen (stands_told n) (reverse ts))
     ∙ ap (find (stands_told n)) (map-reverse told_seen ts)
 

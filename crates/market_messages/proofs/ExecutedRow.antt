@@ -12,10 +12,11 @@ use Rattle.orders.specs.order_law.Lawful.{may_leave, works_as}
 use Rattle.orders.specs.order_law.Told as law
 use Rattle.order_machine.specs.OrderRecord.{OrderRecord, ToldTrade, after_message, live_token, record_life, shown_as}
 use Rattle.order_machine.specs.OrderRecord.{trade_in}
-use Rattle.orders.specs.declared.order.ToldTrade as table
-use Rattle.orders.specs.Changes.{changed_by, with_quantities}
+use Rattle.orders.specs.order_trades.declared.told_trade.ToldTrade as table
+use Rattle.orders.specs.order_trades.Marking.{has_match}
+use Rattle.orders.specs.Changes.{changed_by, holds_match, with_quantities}
 use Rattle.orders.specs.declared.change.Change.TheVariants as changes
-use Rattle.orders.proofs.Marks.{any-map, any-reverse}
+use Rattle.orders.proofs.Marks.{any-map, holds-seen}
 use Rattle.orders.specs.Seen.{told_seen}
 use Rattle.to_client.specs.Occasions.{occasion_seen}
 use Rattle.to_client.specs.declared.occasion.Occasion.TheVariants as occasions
@@ -28,12 +29,14 @@ trade_said m number = record { trade = trade_in m; number = number }
 
 -- the trades of a table's order and those of its record
 pub any-seen : (n : ℕ) (ts : List table.ToldTrade)
-    → list_any (λ (t : table.ToldTrade). t.trade.match_number == n) ts
-    ≡ list_any (λ (t : Trade). t.match_number == n) (map (λ (t : ToldTrade). t.trade) (reverse (map told_seen ts)))
+    → list_any (has_match n) ts ≡ list_any (λ (t : Trade). t.match_number == n) (map (λ (t : ToldTrade). t.trade) (reverse (map told_seen ts)))
 any-seen n ts =
-    sym (any-map (λ (t : Trade). t.match_number == n) (λ (t : ToldTrade). t.trade) (reverse (map told_seen ts))
-    ∙ any-reverse (λ (t : ToldTrade). t.trade.match_number == n) (map told_seen ts)
-    ∙ any-map (λ (t : ToldTrade). t.trade.match_number == n) told_seen ts)
+    holds-seen n ts
+    ∙ sym (any-map (λ (t : Trade). t.match_number == n) (λ (t : ToldTrade). t.trade) (reverse (map told_seen ts)))
+
+not-true : (b : Bool) → not b ≡ true → b ≡ false
+not-true true e = sym e
+not-true false e = refl
 
 -- ---- the row
 
@@ -52,6 +55,12 @@ module _ (m : Executed) (o : OrderRecord) (may : is_lawful (market.Executed m) o
 
   pub trade-few : m.shares ≤ o.unfilled
   trade-few = leaves-few (record_life o) m.shares (and_parts (may_leave m.shares (record_life o)) is_new parts.1).0
+
+  pub trade-new : holds_match m.match_number o ≡ false
+  trade-new =
+      sym (any-map (λ (t : Trade). t.match_number == m.match_number) (λ (t : ToldTrade). t.trade) o.trades)
+      ∙ not-true (list_any (λ (t : Trade). t.match_number == m.match_number) (record_life o).trades)
+      (and_parts (may_leave m.shares (record_life o)) is_new parts.1).1
 
   module _ (issued : ℕ) where
     abbrev pub left : OrderRecord

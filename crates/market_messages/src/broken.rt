@@ -1,7 +1,7 @@
 //! Broken Trade: a trade of an order is taken back.
 
-ghost use Rattle.std.specs.Prelude.{◌≡◌, ◌≤◌, ◌<◌, ◌^◌, true, length, map, IfOk, Some, option_map, reverse};
-ghost use Rattle.std.specs.List.{find, position};
+ghost use Rattle.std.specs.Prelude.{◌≡◌, ◌≤◌, ◌<◌, ◌^◌, true, length, map, IfOk, Some, option_map};
+ghost use Rattle.std.specs.List.{find};
 ghost use Rattle.orders.specs.fix_types.Application.{body_fields};
 ghost use Rattle.orders.specs.order_law.Life.{is_of};
 ghost use Rattle.order_machine.specs.OrderRecord.{record_life, stands_told};
@@ -74,32 +74,5 @@ fn standing_in(order: &Order, match_number: u64) -> Option<ToldTrade>
     ensures newest { option_map told_seen result ≡ find (stands_told match_number) order.now.trades }
     ensures steady { IsSteady order.now }
 {
-    standing(&order.trades, match_number)
-}
-
-/// The newest of these trades that stands under the match number.
-fn standing(trades: &[ToldTrade], match_number: u64) -> Option<ToldTrade>
-    ensures { option_map told_seen result ≡ find (stands_told match_number) (reverse (map told_seen trades.now)) }
-{
-    match standing_behind(trades, match_number) {
-        None => None,
-        Some(behind) => Some(trades[trades.len() - 1 - behind]),
-    }
-}
-
-/// How many trades are newer than it.
-fn standing_behind(trades: &[ToldTrade], match_number: u64) -> Option<usize>
-    ensures { result ≡ position (λ told. stands_told match_number (told_seen told)) (reverse trades.now) }
-{
-    trades
-        .iter()
-        .rev()
-        .position(|told| stands(match_number, told))
-}
-
-/// Whether a trade stands under the match number.
-fn stands(match_number: u64, told: &ToldTrade) -> bool
-    ensures { result ≡ stands_told match_number (told_seen told.now) }
-{
-    told.trade.match_number == match_number && !told.trade.is_broken
+    order.trades.standing(match_number)
 }

@@ -92,14 +92,5 @@ fn may_trade(order: &Order, message: &Executed) -> bool
 fn has_match(order: &Order, match_number: u64) -> bool
     ensures { result ≡ list_any (λ t. t.match_number == match_number) (record_life order.now).trades }
 {
-    is_among(&order.trades, match_number)
-}
-
-/// Whether one of these trades has the match number.
-fn is_among(trades: &[ToldTrade], match_number: u64) -> bool
-    ensures { result ≡ list_any (λ t. t.trade.match_number == match_number) trades.now }
-{
-    trades
-        .iter()
-        .any(|told| told.trade.match_number == match_number)
+    order.trades.holds(match_number)
 }

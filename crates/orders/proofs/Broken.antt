@@ -4,7 +4,7 @@ use Rattle.order_machine.specs.order_law.declared.stage.Stage.{Stage}
 use Rattle.order_machine.specs.order_law.declared.stage.Stage.TheVariants.{Waiting, Working, Closed}
 use Rattle.order_machine.specs.OrderRecord as record_of
 use Rattle.order_machine.specs.OrderRecord.{OrderRecord, with_trade_broken, mark}
-use Rattle.orders.specs.declared.order.ToldTrade.{ToldTrade}
+use Rattle.order_trades.specs.declared.told_trade.ToldTrade.{ToldTrade}
 use Rattle.orders.specs.declared.progress.Progress.{Progress}
 use Rattle.orders.specs.Seen.{progressed, told_seen}
 

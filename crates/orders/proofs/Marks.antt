@@ -1,28 +1,17 @@
 -- Trades of an order that are marked.
-use Rattle.std.proofs.Common.{◌≡◌, ℕ, zero, suc, ◌+◌, ◌<◌, Bool, true, false, List, [], ◌∷◌, ◌++◌, length, map, take}
-use Rattle.std.proofs.Common.{drop, get_or, set, slice_get, reverse, refl, sym, ap, ◌∙◌}
-use Rattle.std.proofs.lemmas.List.{map-append, reverse-append}
-use Rattle.std.proofs.lemmas.Option.{slice_get-get_or}
-use Rattle.std.specs.Prelude.{◌||◌, Some}
+use Rattle.std.proofs.Common.{◌≡◌, ℕ, zero, suc, ◌≤◌, Bool, true, false, List, [], ◌∷◌, ◌++◌, length, map, take}
+use Rattle.std.proofs.Common.{reverse, refl, sym, ap, ◌∙◌, arith}
+use Rattle.std.proofs.Math.Seq.{take-length}
+use Rattle.std.proofs.lemmas.List.{map-append, reverse-append, reverse-reverse, take-map}
+use Rattle.std.specs.Prelude.{◌||◌, ◌==◌, Option, Some, None}
 use Rattle.std.specs.List.{list_any}
-use Rattle.std.proofs.lemmas.List.Edits.{map_over_more}
 use Rattle.order_machine.specs.OrderRecord.{mark}
-use Rattle.orders.specs.declared.order.ToldTrade.{ToldTrade}
-use Rattle.orders.specs.Seen.{told_marked, told_seen}
-
--- a loop that changes each element
-pub changed-more : {X : Type 0} (f : X → X) (xs ys : List X) (i : ℕ) (y : X) → i < length xs → i < length ys
-    → slice_get ys i ≡ Some y → ys ≡ map f (take i xs) ++ drop i xs
-    → set ys i (f y) ≡ map f (take (i + 1) xs) ++ drop (i + 1) xs
-changed-more f xs ys i y inside there at so_far =
-    let found : Some y ≡ Some (get_or ys i y) = sym at ∙ slice_get-get_or ys i y there in
-    map_over_more f xs ys i y inside so_far (cc)
-
--- it has as many as there were
-pub as-many : {X : Type 0} (f : X → X) (xs : List X) (i : ℕ) → length (map f (take i xs) ++ drop i xs) ≡ length xs
-as-many f xs zero = refl
-as-many f [] (suc i) = refl
-as-many f (x ∷ xs) (suc i) = ap suc (as-many f xs i)
+use Rattle.order_machine.specs.OrderRecord as record_of
+use Rattle.order_trades.specs.Marking.{changed_at, changed_if, has_match, told_marked, told_unbroken}
+use Rattle.order_trades.specs.declared.told_trade.ToldTrade.{ToldTrade}
+use Rattle.orders.specs.EarlierTrades.{seen_unbroken, told_before, trades_before}
+use Rattle.orders.specs.declared.earlier_trades.EarlierTrades.{EarlierTrades}
+use Rattle.orders.specs.Seen.{told_seen}
 
 pub map-reverse : {A B : Type 0} (f : A → B) (xs : List A) → map f (reverse xs) ≡ reverse (map f xs)
 map-reverse f [] = refl
@@ -64,3 +53,66 @@ pub any-reverse : {A : Type 0} (test : A → Bool) (xs : List A) → list_any te
 any-reverse test [] = refl
 any-reverse test (x ∷ xs) = ap (list_any test) (reverse-append (x ∷ []) xs) ∙ any-push test (reverse xs) x
     ∙ ap (λ b. test x || b) (any-reverse test xs)
+
+-- of the table's trades, and of those of its record
+pub holds-seen : (n : ℕ) (ts : List ToldTrade) → list_any (has_match n) ts
+    ≡ list_any (λ (t : record_of.ToldTrade). t.trade.match_number == n) (reverse (map told_seen ts))
+holds-seen n ts =
+    sym (any-reverse (λ (t : record_of.ToldTrade). t.trade.match_number == n) (map told_seen ts)
+    ∙ any-map (λ (t : record_of.ToldTrade). t.trade.match_number == n) told_seen ts)
+
+-- ---- trades that are put back
+
+seen-changed : (place : ℕ) (ts : List ToldTrade)
+    → map told_seen (changed_at told_unbroken place ts) ≡ changed_at seen_unbroken place (map told_seen ts)
+seen-changed place [] = refl
+seen-changed zero (t ∷ ts) = refl
+seen-changed (suc place) (t ∷ ts) = ap (λ xs. told_seen t ∷ xs) (seen-changed place ts)
+
+seen-changed-if : (place : Option ℕ) (ts : List ToldTrade)
+    → map told_seen (changed_if told_unbroken place ts) ≡ changed_if seen_unbroken place (map told_seen ts)
+seen-changed-if None ts = refl
+seen-changed-if (Some place) ts = seen-changed place ts
+
+pub told-of : (e : EarlierTrades) (ts : List ToldTrade)
+    → reverse (map told_seen (trades_before e ts)) ≡ told_before e (reverse (map told_seen ts))
+told-of e ts =
+    ap reverse (seen-changed-if e.unbroken (take e.count ts))
+    ∙ ap (λ xs. reverse (changed_if seen_unbroken e.unbroken xs)) (sym (take-map told_seen e.count ts))
+    ∙ ap (λ xs. reverse (changed_if seen_unbroken e.unbroken (take e.count xs)))
+    (sym (reverse-reverse (map told_seen ts)))
+
+length-map : {A B : Type 0} (f : A → B) (xs : List A) → length (map f xs) ≡ length xs
+length-map f [] = refl
+length-map f (x ∷ xs) = ap suc (length-map f xs)
+
+-- as many as there were, of which the one is put back that was marked
+pub before-mark : (n : ℕ) (ts : List ToldTrade) (e : EarlierTrades) → e.count ≡ length ts
+    → changed_if told_unbroken e.unbroken (map (told_marked n) ts) ≡ ts
+    → told_before e (map (mark n) (reverse (map told_seen ts))) ≡ reverse (map told_seen ts)
+before-mark n ts e many back =
+    ap (told_before e) (sym (marked-seen n ts))
+    ∙ sym (told-of e (map (told_marked n) ts))
+    ∙ ap (λ k. reverse (map told_seen (changed_if told_unbroken e.unbroken (take k (map (told_marked n) ts)))))
+    (many ∙ sym (length-map (told_marked n) ts))
+    ∙ ap (λ (xs : List ToldTrade). reverse (map told_seen (changed_if told_unbroken e.unbroken xs)))
+    (take-length (map (told_marked n) ts))
+    ∙ ap (λ (xs : List ToldTrade). reverse (map told_seen xs)) back
+
+changed-as-many : {A : Type 0} (f : A → A) (place : ℕ) (xs : List A) → length (changed_at f place xs) ≡ length xs
+changed-as-many f place [] = refl
+changed-as-many f zero (x ∷ xs) = refl
+changed-as-many f (suc place) (x ∷ xs) = ap suc (changed-as-many f place xs)
+
+taken-few : {A : Type 0} (n : ℕ) (xs : List A) → length (take n xs) ≤ n
+taken-few zero xs = omega arith
+taken-few (suc n) [] = omega arith
+taken-few (suc n) (x ∷ xs) = let few = taken-few n xs in omega (arith, few)
+
+pub few-before : (n : ℕ) (place : Option ℕ) (ts : List ToldTrade)
+    → length (changed_if told_unbroken place (take n ts)) ≤ n
+few-before n None ts = taken-few n ts
+few-before n (Some place) ts =
+    let many = changed-as-many told_unbroken place (take n ts) in
+    let few = taken-few n ts in
+    omega (arith, many, few)

@@ -3,21 +3,19 @@ use Rattle.std.proofs.Common.{◌≡◌, ℕ, ◌≤◌, ◌-◌, Bool, true, fa
 use Rattle.std.proofs.Common.{reverse, refl, sym, ap, ◌∙◌, arith, true≢false, ◌⊎◌, inl, inr}
 use Rattle.std.specs.Prelude.{◌==◌, ◌||◌, Option, Some, None, is_some, option_map, unwrap_or, if◌then◌else◌, bytes_eq}
 use Rattle.std.proofs.Math.Seq.{take-length, take-append_seam}
-use Rattle.std.proofs.lemmas.List.{length-reverse, reverse-append, reverse-reverse, take-map}
+use Rattle.std.proofs.lemmas.List.{length-reverse, reverse-append, reverse-reverse}
 use Rattle.order_machine.specs.History.{Entry, token_of}
 use Rattle.order_machine.specs.OrderRecord.{OrderRecord, at, filled, gone, live_token, over_if, put_in_book, reduced}
-use Rattle.order_machine.specs.OrderRecord.{renamed, still_after, unasked, with_trade}
+use Rattle.order_machine.specs.OrderRecord.{mark, renamed, still_after, unasked, with_trade}
 use Rattle.order_machine.specs.OrderRecord as record_of
-use Rattle.orders.specs.Changes.{changed_by, marks_trades, renames, replaced_as}
+use Rattle.orders.specs.Changes.{breaks, changed_by, renames, replaced_as}
 use Rattle.orders.specs.PutBack.{GoesOn, are_some, can_have_had, had_before, needs_memory, put_back, with_earlier}
-use Rattle.orders.specs.EarlierTrades.{oldest, told_before, trades_before}
-use Rattle.orders.specs.Seen.{cancel_of, progressed, replace_of, told_seen}
+use Rattle.orders.specs.EarlierTrades.{first_trades, oldest, told_before}
+use Rattle.orders.specs.Seen.{cancel_of, progressed, replace_of}
 use Rattle.orders.specs.declared.change.Change.{Change}
 use Rattle.orders.specs.declared.change.Change.TheVariants as changes
 use Rattle.orders.specs.declared.earlier_order.EarlierOrder.{EarlierOrder}
 use Rattle.orders.specs.declared.earlier_trades.EarlierTrades.{EarlierTrades}
-use Rattle.orders.specs.declared.earlier_trades.EarlierTrades.TheVariants.{First, Unmarked}
-use Rattle.orders.specs.declared.order.ToldTrade.{ToldTrade}
 
 -- ---- lists that have the newest first
 
@@ -59,46 +57,49 @@ grown-behind xs ys (inr (x, more)) = rw more (behind-all xs)
 
 -- ---- what a change leaves of an order
 
-pub record Leaves (marks named : Bool) (was now : OrderRecord) : Type 0 where
+pub record Leaves (broken : Option ℕ) (named : Bool) (was now : OrderRecord) : Type 0 where
   pub asked : now.new ≡ was.new
   pub tokens : Grown was.tokens now.tokens
   pub id : named ≡ false → now.id ≡ was.id
-  pub trades : marks ≡ false → Grown was.trades now.trades
+  pub trades : broken ≡ None → Grown was.trades now.trades
 
-same : (marks named : Bool) (was now : OrderRecord) → now.new ≡ was.new → now.tokens ≡ was.tokens → now.id ≡ was.id
-    → now.trades ≡ was.trades → Leaves marks named was now
-same marks named was now asked tokens id trades =
+same : (broken : Option ℕ) (named : Bool) (was now : OrderRecord) → now.new ≡ was.new → now.tokens ≡ was.tokens → now.id ≡ was.id
+    → now.trades ≡ was.trades → Leaves broken named was now
+same broken named was now asked tokens id trades =
     record { asked = asked; tokens = inl tokens; id = λ e. id; trades = λ e. inl trades }
 
-over : (marks named : Bool) (was now : OrderRecord) (b : Bool) → Leaves marks named was now
-    → Leaves marks named was (over_if b now)
-over marks named was now true l = record { asked = l.asked; tokens = l.tokens; id = l.id; trades = l.trades }
-over marks named was now false l = l
+over : (broken : Option ℕ) (named : Bool) (was now : OrderRecord) (b : Bool) → Leaves broken named was now
+    → Leaves broken named was (over_if b now)
+over broken named was now true l = record { asked = l.asked; tokens = l.tokens; id = l.id; trades = l.trades }
+over broken named was now false l = l
 
 never : {P : Type 0} → true ≡ false → P
 never e = absurd (true≢false e)
 
+not-none : {P : Type 0} (n : ℕ) → ◌≡◌ {A = Option ℕ} (Some n) None → P
+not-none n e = absurd (cc)
+
 replaced : (shares price : ℕ) (is_dead : Bool) (o : OrderRecord) (rs : List Entry)
-    → Leaves false true o (replaced_as shares price is_dead o rs)
-replaced shares price is_dead o [] = same false true o o refl refl refl refl
+    → Leaves None true o (replaced_as shares price is_dead o rs)
+replaced shares price is_dead o [] = same None true o o refl refl refl refl
 replaced shares price is_dead o (q ∷ qs) =
-    over false true o (at (put_in_book shares price (renamed (token_of q) q o)) qs
+    over None true o (at (put_in_book shares price (renamed (token_of q) q o)) qs
     (still_after (bytes_eq (live_token o)) o.cancel)) is_dead
     (record { asked = refl; tokens = inr (token_of q, refl); id = λ e. never e; trades = λ e. inl refl })
 
-pub leaves : (change : Change) (o : OrderRecord) → Leaves (marks_trades change) (renames change) o (changed_by change o)
+pub leaves : (change : Change) (o : OrderRecord) → Leaves (breaks change) (renames change) o (changed_by change o)
 leaves (changes.Opened shares price is_dead) o =
-    over false false o (put_in_book shares price o) is_dead
-    (same false false o (put_in_book shares price o) refl refl refl refl)
+    over None false o (put_in_book shares price o) is_dead
+    (same None false o (put_in_book shares price o) refl refl refl refl)
 leaves (changes.Replaced shares price is_dead) o = replaced shares price is_dead o o.replaces
 leaves (changes.Canceled shares) o = by_rest (o.unfilled - shares == 0)
   where
-    by_rest : (b : Bool) → Leaves false false o (if b then unasked (gone o) else reduced shares o)
-    by_rest true = same false false o (unasked (gone o)) refl refl refl refl
-    by_rest false = same false false o (reduced shares o) refl refl refl refl
+    by_rest : (b : Bool) → Leaves None false o (if b then unasked (gone o) else reduced shares o)
+    by_rest true = same None false o (unasked (gone o)) refl refl refl refl
+    by_rest false = same None false o (reduced shares o) refl refl refl refl
 leaves (changes.Traded t) o = by_rest (o.unfilled - t.trade.shares == 0)
   where
-    by_rest : (b : Bool) → Leaves false false o
+    by_rest : (b : Bool) → Leaves None false o
         (if b then unasked (filled t.number t.trade o) else with_trade t.number t.trade o)
     by_rest true = record {
       asked = refl;
@@ -114,15 +115,16 @@ leaves (changes.Traded t) o = by_rest (o.unfilled - t.trade.shares == 0)
       trades =
           λ e. inr (record { trade = t.trade; number = t.number }, refl);
     }
-leaves (changes.Broken t) o = record { asked = refl; tokens = inl refl; id = λ e. refl; trades = λ e. never e }
-leaves changes.Refused o = same false false o (changed_by changes.Refused o) refl refl refl refl
-leaves changes.NotReplaced o = same false false o (changed_by changes.NotReplaced o) refl refl refl refl
-leaves (changes.NotCanceled token) o = same false false o (changed_by (changes.NotCanceled token) o) refl refl refl refl
+leaves (changes.Broken t) o =
+    record { asked = refl; tokens = inl refl; id = λ e. refl; trades = λ e. not-none t.trade.match_number e }
+leaves changes.Refused o = same None false o (changed_by changes.Refused o) refl refl refl refl
+leaves changes.NotReplaced o = same None false o (changed_by changes.NotReplaced o) refl refl refl refl
+leaves (changes.NotCanceled token) o = same None false o (changed_by (changes.NotCanceled token) o) refl refl refl refl
 
-pub goes-on : (marks named : Bool) (was now : OrderRecord) (id : Option (List ℕ)) (trades : EarlierTrades)
-    → Leaves marks named was now → unwrap_or id now.id ≡ was.id → told_before trades now.trades ≡ was.trades
+pub goes-on : (broken : Option ℕ) (named : Bool) (was now : OrderRecord) (id : Option (List ℕ)) (trades : EarlierTrades)
+    → Leaves broken named was now → unwrap_or id now.id ≡ was.id → told_before trades now.trades ≡ was.trades
     → GoesOn id trades was now
-goes-on marks named was now id trades l is_named told = record {
+goes-on broken named was now id trades l is_named told = record {
   asked = l.asked;
   tokens = (grown-behind was.tokens now.tokens l.tokens).0;
   as_many = (grown-behind was.tokens now.tokens l.tokens).1;
@@ -130,22 +132,26 @@ goes-on marks named was now id trades l is_named told = record {
   trades = told;
 }
 
--- as many trades as there were
-pub first-trades : (marks named : Bool) (was now : OrderRecord) (earlier : EarlierTrades) → Leaves marks named was now
-    → marks ≡ false → earlier ≡ First (length was.trades) → told_before earlier now.trades ≡ was.trades
-first-trades marks named was now earlier l e many = ap (λ x. told_before x now.trades) many
-    ∙ grown-oldest was.trades now.trades (l.trades e)
+-- as many trades as there were, where none is broken
+pub first-trades : (change : Change) (o : OrderRecord) (earlier : EarlierTrades) → breaks change ≡ None
+    → earlier ≡ first_trades (length o.trades) → told_before earlier (changed_by change o).trades ≡ o.trades
+first-trades change o earlier none many = ap (λ x. told_before x (changed_by change o).trades) many
+    ∙ grown-oldest o.trades (changed_by change o).trades ((leaves change o).trades none)
 
--- what marks trades gives no other id
-pub marked-named : (change : Change) → marks_trades change ≡ true → renames change ≡ false
-marked-named (changes.Broken t) e = refl
-marked-named (changes.Opened shares price is_dead) e = refl
-marked-named (changes.Replaced shares price is_dead) e = never (sym e)
-marked-named (changes.Canceled shares) e = refl
-marked-named (changes.Traded t) e = refl
-marked-named changes.Refused e = refl
-marked-named changes.NotReplaced e = refl
-marked-named (changes.NotCanceled token) e = refl
+-- what breaks a trade marks it
+pub breaks-marks : (change : Change) (o : OrderRecord) (n : ℕ) → breaks change ≡ Some n
+    → (changed_by change o).trades ≡ map (mark n) o.trades
+breaks-marks (changes.Broken t) o n e = ap (λ k. map (mark k) o.trades) (some-is t.trade.match_number n e)
+  where
+    some-is : (j k : ℕ) → ◌≡◌ {A = Option ℕ} (Some j) (Some k) → j ≡ k
+    some-is j k same = cc
+breaks-marks (changes.Opened shares price is_dead) o n e = not-none n (sym e)
+breaks-marks (changes.Replaced shares price is_dead) o n e = not-none n (sym e)
+breaks-marks (changes.Canceled shares) o n e = not-none n (sym e)
+breaks-marks (changes.Traded t) o n e = not-none n (sym e)
+breaks-marks changes.Refused o n e = not-none n (sym e)
+breaks-marks changes.NotReplaced o n e = not-none n (sym e)
+breaks-marks (changes.NotCanceled token) o n e = not-none n (sym e)
 
 -- ---- what is put back
 
@@ -157,12 +163,6 @@ pub put-back-then : (e : EarlierOrder) (o : OrderRecord) → can_have_had e o �
 put-back-then e o fits = by-test (can_have_had e o) (with_earlier e o) o fits
 
 -- ---- as the fields have it
-
-pub told-of : (trades : EarlierTrades) (ts : List ToldTrade)
-    → reverse (map told_seen (trades_before trades ts)) ≡ told_before trades (reverse (map told_seen ts))
-told-of (First n) ts = ap reverse (sym (take-map told_seen n ts))
-    ∙ ap (λ xs. reverse (take n xs)) (sym (reverse-reverse (map told_seen ts)))
-told-of (Unmarked unmarked) ts = refl
 
 pub oldest-of : (n : ℕ) (ts : List (List ℕ)) → reverse (take n ts) ≡ oldest n (reverse ts)
 oldest-of n ts = ap (λ xs. reverse (take n xs)) (sym (reverse-reverse ts))
@@ -204,21 +204,16 @@ none-pending : (rs : List Entry) → are_some rs ≡ false → rs ≡ []
 none-pending [] e = refl
 none-pending (q ∷ qs) e = never e
 
--- of an order without pending requests as it was, which a change neither renames nor marks
-pub light-before : (change : Change) (o : OrderRecord) (earlier : EarlierOrder) → needs_memory change o ≡ false
-    → (o.replaces ≡ [] → o.cancel ≡ None → (now : OrderRecord) → GoesOn None (First (length o.trades)) o now
-    → put_back earlier now ≡ o) → put_back earlier (changed_by change o) ≡ o
-light-before change o earlier light back =
-    let parts : ((marks_trades change || renames change) ≡ false)
-    × ((are_some o.replaces || is_some o.cancel) ≡ false) =
-    neither (marks_trades change || renames change) (are_some o.replaces || is_some o.cancel) light in
-    let marks : (marks_trades change ≡ false) × (renames change ≡ false) =
-    neither (marks_trades change) (renames change) parts.0 in
+-- of an order without pending requests as it was, which a change doesn't rename
+pub light-before : (change : Change) (o : OrderRecord) (earlier : EarlierOrder) (trades : EarlierTrades)
+    → needs_memory change o ≡ false → told_before trades (changed_by change o).trades ≡ o.trades
+    → (o.replaces ≡ [] → o.cancel ≡ None → (now : OrderRecord) → GoesOn None trades o now → put_back earlier now ≡ o)
+    → put_back earlier (changed_by change o) ≡ o
+light-before change o earlier trades light told back =
+    let parts : (renames change ≡ false) × ((are_some o.replaces || is_some o.cancel) ≡ false) =
+    neither (renames change) (are_some o.replaces || is_some o.cancel) light in
     let asked : (are_some o.replaces ≡ false) × (is_some o.cancel ≡ false) =
     neither (are_some o.replaces) (is_some o.cancel) parts.1 in
-    let left : Leaves (marks_trades change) (renames change) o (changed_by change o) = leaves change o in
+    let left : Leaves (breaks change) (renames change) o (changed_by change o) = leaves change o in
     back (none-pending o.replaces asked.0) (none-there o.cancel asked.1) (changed_by change o)
-    (goes-on (marks_trades change) (renames change) o (changed_by change o) None (First (length o.trades)) left
-    (left.id marks.1)
-    (first-trades (marks_trades change) (renames change) o (changed_by change o)
-    (First (length o.trades)) left marks.0 refl))
+    (goes-on (breaks change) (renames change) o (changed_by change o) None trades left (left.id parts.0) told)

@@ -1,12 +1,12 @@
 -- What a change makes of an order, in `order_machine`'s words: a change has of a message what is left to do with it.
-use Rattle.std.specs.Prelude.{◌≡◌, ◌≢◌, ◌≤◌, ℕ, Bool, true, false, List, [], ◌∷◌, bytes_eq}
+use Rattle.std.specs.Prelude.{◌≡◌, ◌≢◌, ◌≤◌, ◌==◌, ℕ, Bool, true, false, List, [], ◌∷◌, Option, Some, None, bytes_eq}
 use Rattle.std.specs.List.{list_any}
 use Rattle.order_machine.specs.fixed_point.Decimal.{most_shares}
 use Rattle.order_machine.specs.order_law.declared.stage.Stage.TheVariants.{Waiting, Working}
 use Rattle.order_machine.specs.History.{Entry, token_of}
 use Rattle.order_machine.specs.OrderRecord.{OrderRecord, after_canceled, after_traded, at, live_token, market_refused}
 use Rattle.order_machine.specs.OrderRecord.{over_if, put_in_book, renamed, replacements, still_after, unasked}
-use Rattle.order_machine.specs.OrderRecord.{with_trade_broken}
+use Rattle.order_machine.specs.OrderRecord.{ToldTrade, with_trade_broken}
 use Rattle.orders.specs.declared.change.Change.{Change}
 use Rattle.orders.specs.declared.change.Change.TheVariants.{Opened, Replaced, Canceled, Traded, Broken, Refused}
 use Rattle.orders.specs.declared.change.Change.TheVariants.{NotReplaced, NotCanceled}
@@ -30,27 +30,32 @@ changed_by NotReplaced o = at o []
     (still_after (λ token. list_any (bytes_eq token) (replacements o.replaces)) o.cancel)
 changed_by (NotCanceled token) o = at o o.replaces (still_after (bytes_eq token) o.cancel)
 
+-- one of its trades has this match number
+abbrev pub holds_match : ℕ → OrderRecord → Bool
+holds_match match_number o = list_any (λ (t : ToldTrade). t.trade.match_number == match_number) o.trades
+
 -- a change that can be of this order
 abbrev pub Fits : Change → OrderRecord → Type 0
 Fits (Opened shares price is_dead) o = (o.stage ≡ Waiting) × (shares ≤ most_shares)
 Fits (Replaced shares price is_dead) o = (o.stage ≡ Working) × (shares ≤ most_shares)
 Fits (Canceled shares) o = (o.stage ≡ Working) × (shares ≤ o.unfilled)
 Fits (Traded t) o = (o.stage ≡ Working) × (t.trade.shares ≤ o.unfilled)
+    × (holds_match t.trade.match_number o ≡ false)
 Fits (Broken t) o = o.stage ≢ Waiting
 Fits Refused o = o.stage ≡ Waiting
 Fits NotReplaced o = Unit {0}
 Fits (NotCanceled token) o = Unit {0}
 
--- it marks trades of the order
-abbrev pub marks_trades : Change → Bool
-marks_trades (Broken t) = true
-marks_trades (Opened shares price is_dead) = false
-marks_trades (Replaced shares price is_dead) = false
-marks_trades (Canceled shares) = false
-marks_trades (Traded t) = false
-marks_trades Refused = false
-marks_trades NotReplaced = false
-marks_trades (NotCanceled token) = false
+-- the match number of the trade that it breaks
+abbrev pub breaks : Change → Option ℕ
+breaks (Broken t) = Some t.trade.match_number
+breaks (Opened shares price is_dead) = None
+breaks (Replaced shares price is_dead) = None
+breaks (Canceled shares) = None
+breaks (Traded t) = None
+breaks Refused = None
+breaks NotReplaced = None
+breaks (NotCanceled token) = None
 
 -- it may give the order another ClOrdID
 abbrev pub renames : Change → Bool

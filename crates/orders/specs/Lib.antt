@@ -12,3 +12,4 @@ pub use Rattle.order_machine.specs.order_law.wire_law.Printable
 pub use Rattle.fix_types.specs as fix_types
 pub use Rattle.order_machine.specs.order_law as order_law
 pub use Rattle.order_machine.specs as order_machine
+pub use Rattle.order_trades.specs as order_trades

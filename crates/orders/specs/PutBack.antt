@@ -8,7 +8,7 @@ use Rattle.order_machine.specs.History.{Entry}
 use Rattle.order_machine.specs.OrderRecord.{OrderRecord}
 use Rattle.orders.specs.declared.earlier_order.EarlierOrder.{EarlierOrder}
 use Rattle.orders.specs.declared.earlier_trades.EarlierTrades.{EarlierTrades}
-use Rattle.orders.specs.Changes.{marks_trades, renames}
+use Rattle.orders.specs.Changes.{renames}
 use Rattle.orders.specs.declared.change.Change.{Change}
 use Rattle.orders.specs.EarlierTrades.{oldest, told_before}
 use Rattle.orders.specs.Seen.{cancel_of, progressed, replace_of}
@@ -41,9 +41,9 @@ abbrev pub are_some : List Entry → Bool
 are_some [] = false
 are_some (q ∷ qs) = true
 
--- What it has before a change takes memory: a request is pending, or the change breaks a trade or gives another id.
+-- What it has before a change takes memory: a request is pending, or the change gives another id.
 abbrev pub needs_memory : Change → OrderRecord → Bool
-needs_memory change o = (marks_trades change || renames change) || (are_some o.replaces || is_some o.cancel)
+needs_memory change o = renames change || (are_some o.replaces || is_some o.cancel)
 
 -- One that goes on from an earlier order: it has had its tokens, its ClOrdID was this or is the same, and its trades
 -- were these.

@@ -7,18 +7,13 @@ use Rattle.order_machine.specs.History.{Entry}
 use Rattle.order_machine.specs.fix_fields.Field.{text}
 use Rattle.orders.specs.declared.requests.Cancelling.{Cancelling}
 use Rattle.orders.specs.declared.requests.Replacing.{Replacing}
-use Rattle.order_machine.specs.order_law.Life.{marked}
-use Rattle.orders.specs.declared.order.ToldTrade.{ToldTrade}
+use Rattle.order_trades.specs.declared.told_trade.ToldTrade.{ToldTrade}
 use Rattle.orders.specs.declared.progress.Progress.{Progress}
 use Rattle.order_machine.specs.OrderRecord.{OrderRecord, with_tokens}
 use Rattle.order_machine.specs.OrderRecord as record_of
 
 abbrev pub told_seen : ToldTrade → record_of.ToldTrade
 told_seen t = record { trade = t.trade; number = t.number }
-
--- a trade, marked as broken where it has this match number
-abbrev pub told_marked : ℕ → ToldTrade → ToldTrade
-told_marked match_number t = record t { trade = marked match_number t.trade }
 
 -- an order that has come so far
 abbrev pub progressed : Progress → OrderRecord → OrderRecord

@@ -1,9 +1,9 @@
 //! What a message of the market changes of an order.
 
 ghost use Rattle.std.specs.Prelude.{◌≡◌};
-ghost use Rattle.orders.specs.Changes.{marks_trades, renames};
+ghost use Rattle.orders.specs.Changes.{breaks, renames};
 
-use crate::order::ToldTrade;
+use order_trades::ToldTrade;
 
 /// What a message of the market changes of an order, by its type. What is told of it isn't said here.
 ///
@@ -37,13 +37,14 @@ pub enum Change {
     NotCanceled([u8; 14]),
 }
 
-/// Whether a change marks trades of the order. Every other one leaves those that are there, and adds one at most.
-pub(crate) fn marks_trades(change: Change) -> bool
-    ensures { result ≡ marks_trades change }
+/// The match number of the trade that a change breaks. Every other one leaves those that are there, and adds one at
+/// most.
+pub(crate) fn breaks(change: Change) -> Option<u64>
+    ensures { result ≡ breaks change }
 {
     match change {
-        Change::Broken(_) => true,
-        _ => false,
+        Change::Broken(told) => Some(told.trade.match_number),
+        _ => None,
     }
 }
 

@@ -2,7 +2,6 @@
 
 ghost use Rattle.std.specs.Prelude.{◌≡◌, ◌≤◌, ◌+◌, length};
 ghost use Rattle.order_machine.specs.order_law.declared.stage.Stage.TheVariants.{Waiting};
-ghost use Rattle.orders.specs.EarlierTrades.{most_trades};
 ghost use Rattle.order_machine.specs.order_law.wire_law.Printable.{ArePrintable};
 
 use crate::boxed::Boxed;
@@ -25,7 +24,7 @@ pub struct EarlierOrder {
     pub(crate) replaces: Replaces,
     pub(crate) cancel: Option<Boxed<Cancelling>>,
     ghost token_set: { ArePrintable token },
-    ghost trades_set: { progress.stage ≡ Waiting → most_trades trades ≡ 0 },
+    ghost trades_set: { progress.stage ≡ Waiting → trades.count ≡ 0 },
     ghost counted: { progress.tokens ≤ 1 + earlier_count },
     ghost replaces_set: { progress.tokens + length replaces ≤ 65_536 },
     ghost few: { length replaces ≤ 4 },

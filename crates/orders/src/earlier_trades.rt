@@ -1,27 +1,23 @@
 //! What the trades of an order were.
 
 ghost use Rattle.std.specs.Prelude.{◌≡◌, ◌≤◌, length};
-ghost use Rattle.orders.specs.EarlierTrades.{most_trades, trades_before};
+ghost use Rattle.orders.specs.EarlierTrades.{trades_before};
 
-use crate::order::ToldTrade;
-use short_list::ShortList;
+use order_trades::Trades;
 
-/// What the trades of an order were before it was changed.
-#[derive(Drop)]
-pub(crate) enum EarlierTrades {
-    /// The first ones of those that there are, this many.
-    First(usize),
-    /// These: some were marked since.
-    Unmarked(Vec<ToldTrade>),
+/// What the trades of an order were before it was changed: the first ones of those that there are.
+#[derive(Clone, Copy)]
+pub(crate) struct EarlierTrades {
+    /// How many they were.
+    pub count: usize,
+    /// The place of the one that was broken since.
+    pub unbroken: Option<usize>,
 }
 
 /// Puts the trades back to what they were. Takes no memory.
-pub(crate) fn put_trades_back(trades: &mut ShortList<ToldTrade>, earlier: EarlierTrades)
-    ensures trades { trades.new.items ≡ trades_before earlier trades.old.items }
-    ensures most { length trades.new.items ≤ most_trades earlier }
+pub(crate) fn put_trades_back(trades: &mut Trades, earlier: EarlierTrades)
+    ensures trades { trades.new ≡ trades_before earlier trades.old }
+    ensures most { length trades.new ≤ earlier.count }
 {
-    match earlier {
-        EarlierTrades::First(count) => trades.truncate(count),
-        EarlierTrades::Unmarked(unmarked) => *trades = ShortList::of_items(unmarked),
-    }
+    trades.put_back(earlier.count, earlier.unbroken);
 }

@@ -17,21 +17,13 @@ use crate::progress::Progress;
 use crate::replaces::Replaces;
 use crate::requests::{Cancelling, Replacing};
 use crate::symbol::Symbol;
-use crate::trades::mark;
 use fix_types::{Character, ClOrdId, NewOrder};
-use order_machine::{NextTokens, Trade};
+use order_machine::NextTokens;
+use order_trades::{ToldTrade, Trades};
 use same_bytes::is_same_token;
-use short_list::ShortList;
 use std::alloc::{AllocError, Global};
 use std::marker::Model;
 use std::snapshot::Snapshot;
-
-/// A trade, and the ExecID (17) under which its client was told of it.
-#[derive(Clone, Copy)]
-pub struct ToldTrade {
-    pub trade: Trade,
-    pub number: u64,
-}
 
 /// An accepted order. Contracts see it as `order_machine`'s record.
 pub struct Order {
@@ -57,12 +49,12 @@ pub struct Order {
     /// ClOrdID (11) that it goes by: its own, or that of the last replace of it that was done.
     pub cl_ord_id: ClOrdId,
     /// Its trades, the oldest first: none while it waits.
-    pub trades: ShortList<ToldTrade>,
+    pub trades: Trades,
     /// The pending replaces of it, and the pending cancel, which was accepted after them.
     pub replaces: Replaces,
     pub cancel: Option<Boxed<Cancelling>>,
     ghost token_set: { ArePrintable token },
-    ghost trades_set: { progress.stage ≡ Waiting → trades.items ≡ [] },
+    ghost trades_set: { progress.stage ≡ Waiting → trades ≡ [] },
     ghost counted: { progress.tokens ≤ 1 + length earlier.items },
     ghost symbol_set: { symbol ≡ asked.value.symbol },
     ghost side_set: { side ≡ asked.value.side },
@@ -121,7 +113,7 @@ impl Model for Order {
       cancelled = o.progress.cancelled;
       value = o.progress.value;
       tokens = o.token ∷ reverse o.earlier.items;
-      trades = reverse (map told_seen o.trades.items);
+      trades = reverse (map told_seen o.trades);
       replaces = map (replace_seen o.client o.order_id) o.replaces;
       cancel = option_map (cancel_seen o.client o.order_id) o.cancel;
     } };
@@ -181,7 +173,7 @@ impl Order {
             order_capacity: message.order_capacity,
             first_total: progress.total,
             cl_ord_id: ClOrdId::copied(alloc, message.cl_ord_id.as_slice())?,
-            trades: ShortList::new(),
+            trades: Trades::new(),
             replaces: Replaces::new(),
             cancel: None,
         })
@@ -395,7 +387,7 @@ impl Order {
         requires { Fits (changes.Broken told) self.old }
         ensures { self.new ≡ changed_by (changes.Broken told) self.old }
     {
-        mark(&mut self.trades, told.trade.match_number);
+        self.trades.mark(told.trade.match_number);
         self.progress = self.progress.broken(told.trade.shares, told.trade.price);
     }
 

@@ -4,15 +4,14 @@ ghost use Rattle.std.specs.Prelude.{◌≡◌, ℕ, List, [], Option, None, IfOk
 ghost use Rattle.std.specs.Prelude.{unwrap_or};
 ghost use Rattle.order_machine.specs.order_law.declared.stage.Stage.TheVariants.{Waiting};
 ghost use Rattle.order_machine.specs.History.{Entry};
-ghost use Rattle.order_machine.specs.OrderRecord.{Cancelling as CancellingRecord, OrderRecord, at};
+ghost use Rattle.order_machine.specs.OrderRecord.{Cancelling as CancellingRecord, OrderRecord, at, mark};
 ghost use Rattle.orders.specs.Changes.{changed_by};
 ghost use Rattle.orders.specs.PutBack.{GoesOn, are_some, can_have_had, needs_memory, put_back};
 ghost use Rattle.orders.specs.Seen.{cancel_seen, replace_seen};
-ghost use Rattle.orders.specs.EarlierTrades.{most_trades};
-ghost use Rattle.orders.specs.declared.earlier_trades.EarlierTrades.TheVariants.{First};
+ghost use Rattle.orders.specs.EarlierTrades.{first_trades, told_before};
 
 use crate::boxed::Boxed;
-use crate::change::{Change, marks_trades, renames};
+use crate::change::{Change, breaks, renames};
 use crate::copying::copied_cancel;
 use crate::earlier_order::EarlierOrder;
 use crate::earlier_trades::{EarlierTrades, put_trades_back};
@@ -25,36 +24,30 @@ use std::alloc::{AllocError, Global};
 
 impl Order {
     /// What it has before a message of the market changes it. It takes the memory of the requests that are pending;
-    /// where the message gives it another ClOrdID, of that too, and where it breaks a trade, of all trades.
+    /// where the message gives it another ClOrdID, of that too.
     pub fn before(&self, alloc: Global, change: Change) -> Result<EarlierOrder, AllocError>
         ensures { IfOk result (λ earlier. put_back earlier (changed_by change self.now) ≡ self.now) }
     {
-        if marks_trades(change) {
-            let unmarked = Vec::from_slice(alloc, &self.trades)?;
-            self.before_with(alloc, None, EarlierTrades::Unmarked(unmarked))
-        } else if renames(change) {
+        if renames(change) {
             let cl_ord_id = ClOrdId::copied(alloc, self.cl_ord_id.as_slice())?;
-            self.before_with(alloc, Some(cl_ord_id), self.trades_so_far())
+            self.before_with(alloc, Some(cl_ord_id), self.trades_before(change))
         } else {
-            self.before_with(alloc, None, self.trades_so_far())
+            self.before_with(alloc, None, self.trades_before(change))
         }
     }
 
-    /// Whether what it has before a change takes memory: a request is pending, or the change breaks a trade or gives
-    /// another ClOrdID.
+    /// Whether what it has before a change takes memory: a request is pending, or the change gives another ClOrdID.
     pub fn needs_memory(&self, change: Change) -> bool
         ensures { result ≡ needs_memory change self.now }
     {
-        (marks_trades(change) || renames(change))
-            || (is_replace_pending(&self.replaces) || is_cancel_pending(&self.cancel))
+        renames(change) || (is_replace_pending(&self.replaces) || is_cancel_pending(&self.cancel))
     }
 
     /// What it has before a change, where that takes no memory.
-    pub fn before_lightly(&self) -> EarlierOrder
-        ensures { (change : Change) → needs_memory change self.now ≡ false
-            → put_back result (changed_by change self.now) ≡ self.now }
+    pub fn before_lightly(&self, change: Change) -> EarlierOrder
+        ensures { needs_memory change self.now ≡ false → put_back result (changed_by change self.now) ≡ self.now }
     {
-        self.before_alone()
+        self.before_alone(self.trades_before(change))
     }
 
     /// What it has before a request is pending on it. It takes the memory of the requests that are pending.
@@ -87,7 +80,7 @@ impl Order {
         cl_ord_id: Option<ClOrdId>,
         trades: EarlierTrades,
     ) -> Result<EarlierOrder, AllocError>
-        requires { self.now.stage ≡ Waiting → most_trades trades ≡ 0 }
+        requires { self.now.stage ≡ Waiting → trades.count ≡ 0 }
         ensures { IfOk result (λ earlier. (now : OrderRecord) → GoesOn cl_ord_id trades self.now now
             → put_back earlier now ≡ self.now) }
     {
@@ -103,10 +96,11 @@ impl Order {
         })
     }
 
-    /// What it has, with its ClOrdID, as many trades as it has, and no pending request.
-    fn before_alone(&self) -> EarlierOrder
+    /// What it has, with its ClOrdID, its trades as given, and no pending request.
+    fn before_alone(&self, trades: EarlierTrades) -> EarlierOrder
+        requires { self.now.stage ≡ Waiting → trades.count ≡ 0 }
         ensures { self.now.replaces ≡ [] → self.now.cancel ≡ None → (now : OrderRecord)
-            → GoesOn None (First (length self.now.trades)) self.now now → put_back result now ≡ self.now }
+            → GoesOn None trades self.now now → put_back result now ≡ self.now }
     {
         let token = self.token;
         EarlierOrder {
@@ -114,18 +108,43 @@ impl Order {
             earlier_count: self.earlier.len(),
             cl_ord_id: None,
             progress: self.progress,
-            trades: self.trades_so_far(),
+            trades,
             replaces: Replaces::new(),
             cancel: None,
         }
     }
 
+    /// What its trades are before a change.
+    fn trades_before(&self, change: Change) -> EarlierTrades
+        ensures trades { told_before result (changed_by change self.now).trades ≡ self.now.trades }
+        ensures waiting { self.now.stage ≡ Waiting → result.count ≡ 0 }
+    {
+        match breaks(change) {
+            None => self.trades_so_far(),
+            Some(match_number) => self.trades_before_mark(match_number),
+        }
+    }
+
     /// As many trades as it has.
     fn trades_so_far(&self) -> EarlierTrades
-        ensures trades { result ≡ First (length self.now.trades) }
-        ensures waiting { self.now.stage ≡ Waiting → most_trades result ≡ 0 }
+        ensures trades { result ≡ first_trades (length self.now.trades) }
+        ensures waiting { self.now.stage ≡ Waiting → result.count ≡ 0 }
     {
-        EarlierTrades::First(self.trades.len())
+        EarlierTrades {
+            count: self.trades.len(),
+            unbroken: None,
+        }
+    }
+
+    /// As many trades as it has, of which the one that stands under a match number isn't broken.
+    fn trades_before_mark(&self, match_number: u64) -> EarlierTrades
+        ensures trades { told_before result (map (mark match_number) self.now.trades) ≡ self.now.trades }
+        ensures waiting { self.now.stage ≡ Waiting → result.count ≡ 0 }
+    {
+        EarlierTrades {
+            count: self.trades.len(),
+            unbroken: self.trades.standing_place(match_number),
+        }
     }
 
     /// Whether it can have had this: as many tokens, and, as it waited, the total that its client asked.

@@ -8,7 +8,8 @@ use Rattle.orders.specs.order_machine.OrderRecord.{OrderRecord}
 use Rattle.orders.specs.PutBack.{put_back}
 use Rattle.orders.specs.declared.earlier_order.EarlierOrder.{EarlierOrder}
 use Rattle.hint_index.specs.undo_list.Undoing.{IsWithin}
-use Rattle.undo_orders.specs.PuttingBack.{changed_at, restored, settled_of}
+use Rattle.orders.specs.order_trades.Marking.{changed_at}
+use Rattle.undo_orders.specs.PuttingBack.{restored, settled_of}
 use Rattle.undo_orders.specs.declared.list.Was.{Was}
 
 put-back : {A : Type 0} (f : A → A) (n : ℕ) (xs : List A) (p : ℕ) (x y : A) → slice_get xs p ≡ Some y → f x ≡ y

@@ -1,14 +1,9 @@
 -- A list of orders that is put back to how it stood when it was last settled.
-use Rattle.std.specs.Prelude.{ℕ, zero, suc, List, [], ◌∷◌, take, reverse}
+use Rattle.std.specs.Prelude.{ℕ, List, [], ◌∷◌, take, reverse}
 use Rattle.orders.specs.order_machine.OrderRecord.{OrderRecord}
 use Rattle.orders.specs.PutBack.{put_back}
+use Rattle.orders.specs.order_trades.Marking.{changed_at}
 use Rattle.undo_orders.specs.declared.list.Was.{Was}
-
--- with the item at a place as a function makes it
-abbrev pub changed_at : {A : Type 0} → (A → A) → ℕ → List A → List A
-changed_at f place [] = []
-changed_at f zero (x ∷ xs) = f x ∷ xs
-changed_at f (suc place) (x ∷ xs) = x ∷ changed_at f place xs
 
 -- with what orders had put back, the newest change first
 abbrev pub restored : List Was → List OrderRecord → List OrderRecord

@@ -6,7 +6,7 @@ ghost use Rattle.orders.specs.order_machine.OrderRecord.{OrderRecord, at};
 ghost use Rattle.orders.specs.Changes.{Fits, changed_by};
 ghost use Rattle.orders.specs.Seen.{cancel_of, replace_of};
 ghost use Rattle.orders.specs.PutBack.{needs_memory, put_back};
-ghost use Rattle.undo_orders.specs.PuttingBack.{changed_at};
+ghost use Rattle.orders.specs.order_trades.Marking.{changed_at};
 
 use hint_index::SettledList;
 use orders::{Boxed, Cancelling, Change, EarlierOrder, Order, Replacing};
@@ -186,7 +186,7 @@ impl UndoOrders {
         ensures err { OnErr result (self.new.now ≡ self.old.now) }
     {
         self.changed.reserve(1)?;
-        let earlier = self.orders[place].before_lightly();
+        let earlier = self.orders[place].before_lightly(change);
         self.orders[place].apply(alloc, change)?;
         self.changed.push_reserved(Was { place, earlier });
         Ok(())

@@ -5,7 +5,7 @@ use Rattle.order_machine.specs.OrderRecord.{OrderRecord, shown_as}
 use Rattle.to_client.specs.Pending.{cancel_in}
 use Rattle.orders.specs.Changes.{changed_by, with_quantities}
 use Rattle.orders.specs.declared.change.Change.TheVariants as changes
-use Rattle.orders.specs.declared.order.ToldTrade.{ToldTrade}
+use Rattle.orders.specs.order_trades.declared.told_trade.ToldTrade.{ToldTrade}
 use Rattle.orders.specs.Seen.{progressed}
 use Rattle.to_client.specs.Occasions.{occasion_seen}
 use Rattle.to_client.specs.declared.occasion.Occasion.TheVariants as occasions

@@ -2,4 +2,5 @@ use Rattle.orders.proofs.Restoring.{light-before}
 use Rattle.orders.proofs.order.Order.before_lightly.Goals as goal
 
 pub returns : goal.returns
-returns c = λ change light. light-before change c.args.self.now c.before_alone.result light c.before_alone.ensures
+returns c = λ light. light-before c.args.change c.args.self.now c.before_alone.result c.trades_before.result light
+    c.trades_before.ensures.trades c.before_alone.ensures

@@ -24,7 +24,7 @@ returns-clause-settled c =
     inside c.index.ensures c.index_mut.ensures.value
     (λ same. ap (put_back earlier) c.in_ok-apply.ensures.changed
     ∙ ap (λ (o : OrderRecord). put_back earlier (changed_by c.args.change o)) (sym same)
-    ∙ c.before_lightly-earlier.ensures c.args.change (c.requires.light seen here) ∙ same)
+    ∙ c.before_lightly-earlier.ensures (c.requires.light seen here) ∙ same)
     (c.push_reserved.ensures.items ∙ ap (λ (ws : List Was). ws
     ++ record { place = c.args.place; earlier = earlier } ∷ []) c.in_ok-reserve.ensures.items)
     ∙ ap (λ (u : Undoable OrderRecord). u.settled) c.self.view_is
