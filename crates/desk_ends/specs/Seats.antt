@@ -6,6 +6,7 @@ use mathlib.Core.List.{IsPrefix}
 use Rattle.gate_law.specs.Events.{LinkOut}
 use Rattle.gate_events.specs.declared.event.Event.{Event}
 use Rattle.gate_events.specs.Sources.{events_from}
+use Rattle.desk_ends.specs.Sizes.{IsLong}
 use Rattle.desk_ends.specs.Rings.{NamedInlet, NamedOutlet, Done, put_at, took_at}
 
 -- a seat: every event that it gave, and those that it knows to lie in the ring
@@ -59,13 +60,14 @@ WayMayRelease w v = (v.name ≡ w.name) × (v.sent ≡ w.sent) × (v.cut ≡ w.c
     × (v.stages ≡ w.stages)
 
 -- Lists were for a way. It took them, or it is cut and took none; it isn't cut by them where it knew of room, nor where
--- there were none. It knows of room for one list less at the worst. Where it stages none is released.
+-- there were none. It knows of room for one list less at the worst, or behind a long list for the 1,088 that a client's
+-- own events leave free. Where it stages none is released.
 pub record WaySent (lists : List (List LinkOut)) (w v : WayState) : Type 0 where
   pub name : v.name ≡ w.name
   pub whole : v.cut ≡ false → (w.cut ≡ false) × (v.sent ≡ w.sent ++ lists)
   pub lost : v.cut ≡ true → v.sent ≡ w.sent
   pub stays : ((0 < w.free) ⊎ (lists ≡ [])) → v.cut ≡ w.cut
-  pub takes : w.free ≤ v.free + 1
+  pub takes : (w.free ≤ v.free + 1) ⊎ ((1_088 ≤ v.free) × IsLong lists)
   pub stages : v.stages ≡ w.stages
   pub waits : w.stages ≡ true → v.released ≡ w.released
 

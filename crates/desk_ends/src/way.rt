@@ -4,17 +4,29 @@ ghost use Rattle.std.specs.Prelude.{◌≡◌, ◌≤◌, [], true, false};
 ghost use Rattle.std.specs.VecDeque.{deque_capacity, deque_len};
 ghost use Rattle.rtrb.specs.Ring.{known_free, producer_capacity};
 
+use crate::size::{is_long, size_of};
 use gate_events::{Recipient, Told};
 use rtrb::{Consumer, Producer};
 use std::alloc::{AllocError, Global};
 use std::collections::VecDeque;
 use std::marker::Model;
 
+/// Of the 2,112 places of an outlet's queue, those that a client's own events leave free: 1,024 for what markets say, and
+/// 64 for time.
+pub const KEPT_FROM_CLIENTS: usize = 1_088;
+
+/// Where long lists have more bytes than these, no more than those places count as free: so that a client that asks for
+/// much and reads nothing has its own events wait. Lists that aren't long have as many at most.
+const MOST_BYTES: u64 = 2_097_152;
+
 /// The desk's end of an outlet's queue, by which output lists go into it. Contracts see its queue and recipient, what
 /// went in, for how many more lists it knows room, and whether it is cut.
 ///
 /// It is cut once a list found no room: that list and each later one stand in the history alone, so what comes out of
 /// the queue stays a beginning of what there was.
+///
+/// Long lists take more of its room than a place each: once they have more than 2 MB since the queue was last seen to be
+/// empty, the way knows of no more than 1,088 places, until it is seen to be empty again.
 ///
 /// A way that stages keeps lists beside its queue, where nobody can take them, until they are released: then they go
 /// into the queue, in their order. Contracts see what is staged as sent and not yet released, and its places as no
@@ -27,6 +39,8 @@ pub struct Way {
     staged: VecDeque<Told>,
     stages: bool,
     cut: bool,
+    /// How many bytes long lists have that were sent since the queue was last seen to be empty.
+    bytes: u64,
     ghost held: { stages ≡ true → producer_capacity producer ≤ deque_capacity staged },
     ghost fit: { deque_len staged ≤ known_free producer },
     ghost none: { stages ≡ false → staged.items ≡ [] },
@@ -38,6 +52,7 @@ impl Model for Way {
     ghost use Rattle.rtrb.specs.Ring.{sent, known_free};
     ghost use Rattle.desk_ends.specs.Rings.{producer_ring};
     ghost use Rattle.desk_ends.specs.Seats.{WayState};
+    ghost use Rattle.desk_ends.specs.Sizes.{usable};
 
     ghost Value = { WayState };
 
@@ -46,7 +61,7 @@ impl Model for Way {
       sent = sent w.producer ++ w.staged.items;
       released = sent w.producer;
       stages = w.stages;
-      free = known_free w.producer - deque_len w.staged;
+      free = usable w.bytes (known_free w.producer - deque_len w.staged);
       cut = w.cut;
     } };
 }
@@ -72,6 +87,7 @@ impl Way {
             staged: VecDeque::new(alloc),
             stages: false,
             cut: false,
+            bytes: 0,
         }
     }
 
@@ -110,10 +126,37 @@ impl Way {
         ensures looked { WayLooked self.old self.new }
         ensures value { IsTrue result ↔ ((self.new.cut ≡ false) × (self.new.free ≤ kept_free)) }
     {
-        let staged = self.staged.len();
-        !self.cut
-            && self.producer.cached_slots() - staged <= kept_free
-            && self.producer.slots() - staged <= kept_free
+        !self.cut && self.known_room() <= kept_free && self.look() <= kept_free
+    }
+
+    /// For how many more lists it knows room, without a look.
+    fn known_room(&self) -> usize
+        ensures { result ≡ self.now.free }
+    {
+        self.usable(self.producer.cached_slots() - self.staged.len())
+    }
+
+    /// For how many more lists there is room, after a look into the queue. Where it is empty no bytes lie there.
+    fn look(&mut self) -> usize
+        ensures looked { WayLooked self.old self.new }
+        ensures value { result ≡ self.new.free }
+    {
+        let free = self.producer.slots() - self.staged.len();
+        if free == self.producer.capacity() {
+            self.bytes = 0;
+        }
+        self.usable(free)
+    }
+
+    /// Of so many free places those for which there is room beside the bytes that lie there.
+    fn usable(&self, free: usize) -> usize
+        ensures { result ≡ usable self.bytes free }
+    {
+        if self.bytes > MOST_BYTES {
+            free.min(KEPT_FROM_CLIENTS)
+        } else {
+            free
+        }
     }
 
     /// For how many more lists there is room, after a look into the queue; `usize::MAX` if the way is cut.
@@ -124,8 +167,7 @@ impl Way {
         if self.cut {
             usize::MAX
         } else {
-            let staged = self.staged.len();
-            self.producer.slots() - staged
+            self.look()
         }
     }
 
@@ -137,14 +179,21 @@ impl Way {
         if self.cut || told.as_slice().is_empty() {
             return;
         }
+        let bytes = if is_long(&told) {
+            self.bytes.saturating_add(size_of(&told))
+        } else {
+            self.bytes
+        };
         if !self.stages {
-            if self.producer.push(told).is_err() {
-                self.cut = true;
+            match self.producer.push(told) {
+                Ok(()) => self.bytes = bytes,
+                Err(_) => self.cut = true,
             }
             return;
         }
         if self.staged.len() < self.producer.slots() {
             self.staged.push_back_reserved(told);
+            self.bytes = bytes;
         } else {
             self.cut = true;
         }
