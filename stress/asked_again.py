@@ -1,10 +1,14 @@
-"""`python3 -m stress.asked_again GATEWAY [SECONDS]`: how much memory does a gateway take by a client that asks again and
-again for all that is kept for it?
+"""`python3 -m stress.asked_again GATEWAY [SECONDS [CLIENTS]]`: how much memory does a gateway take by a client that asks
+again and again for all that is kept for it?
 
 C1 has 8,100 reports kept, and recovers five times: each time it gets all of them. Then it asks 1,500 times in one write
 for all of them, once reading nothing and once reading as fast as it can, each with a gateway of its own; C2 has orders
 filled meanwhile. The gateway takes less than 300 MB, no fill of C2's takes more than a second, and C1's link is ended
-with a line that says why. The status is 0 where all of it is so."""
+with a line that says why.
+
+With CLIENTS, 63 at most, so many do it at once instead, each with 300 reports kept, reading nothing; what is said of
+C1 is to be so of each, and the fills of one client more take at most twice as long as before, by the slowest of a
+hundred. The status is 0 where all of it is so."""
 import socket
 import subprocess
 import sys
@@ -21,6 +25,8 @@ from .stood_still import CLIENT, SETTINGS, Steps
 # each of them is reported as pending, as accepted and as traded
 ORDERS = 2_700
 ASKS = 1_500
+# of each of many clients
+FEW_ORDERS, FILLS = 100, 400
 MOST_MEGABYTES, LONGEST = 300, 1.0
 TOLD = " messages again within an hour, limit "
 
@@ -86,13 +92,13 @@ def megabytes(gateway):
     return 0.0
 
 
-def kept(client):
+def kept(client, orders=ORDERS, at_once=300):
     """Has as many reports made as its orders give, a few orders at a time; says how many."""
     seen = 0
-    for number in range(ORDERS):
+    for number in range(1, orders + 1):
         client.order()
-        if number % 300 == 299:
-            seen += client.reports(900)
+        if number % at_once == 0:
+            seen += client.reports(3 * at_once)
     return seen
 
 
@@ -100,7 +106,7 @@ def again(address, client, room=None):
     """The same client behind a lost link, as soon as its line takes it."""
     client.stream.close()
     time.sleep(0.5)
-    return Client(b"C1", address, client.number, room)
+    return Client(client.name, address, client.number, room)
 
 
 def ask(client, reads):
@@ -148,8 +154,32 @@ def play(steps, gateway, addresses, seconds, reads):
     steps.is_so(f"{how}: {len(times)} fills of C2, the longest in {longest:.2f} s", longest <= LONGEST)
 
 
-def run(steps, program, seconds, reads):
-    port, *clients = free_addresses(3)
+def slowest(client, fills):
+    """The time within which all but one in a hundred fills come, in seconds."""
+    times = []
+    for _ in range(fills):
+        times.append(client.filled())
+        time.sleep(0.005)
+    return sorted(times)[len(times) * 99 // 100]
+
+
+def crowd(steps, gateway, addresses, seconds, reads):
+    """Many clients ask at once; one more has orders filled."""
+    *many, other = [Client(b"C%d" % (i + 1), it) for i, it in enumerate(addresses)]
+    for client in many:
+        steps.is_well &= kept(client, FEW_ORDERS, FEW_ORDERS) == 3 * FEW_ORDERS
+    many = [again(it, client, 4096) for it, client in zip(addresses, many)]
+    time.sleep(1)
+    before, calm = megabytes(gateway), slowest(other, FILLS)
+    for client in many:
+        threading.Thread(target=ask, args=(client, reads), daemon=True).start()
+    busy, most = slowest(other, FILLS), megabytes(gateway)
+    steps.is_so(f"{len(many)} clients: {most:.0f} MB at most, {before:.0f} before", most < MOST_MEGABYTES)
+    steps.is_so(f"99 of 100 fills within {1e3 * busy:.1f} ms, {1e3 * calm:.1f} ms before", busy <= 2 * calm)
+
+
+def run(steps, program, seconds, reads, count=1, play=play):
+    port, *clients = free_addresses(2 + count)
     market = Market(port)
     market.begin()
     with tempfile.TemporaryDirectory() as folder:
@@ -162,17 +192,23 @@ def run(steps, program, seconds, reads):
                 play(steps, gateway, clients, seconds, reads)
             finally:
                 gateway.kill()
-        told = [line for line in errors.read_text().splitlines() if " C1 " in line]
-        steps.is_so("it is told why its link is ended", any(TOLD in line for line in told))
-        steps.is_so("and its link is ended", any(" C1 link fault 4: " in line for line in told))
-        print("".join(line + "\n" for line in told), end="")
+        told = errors.read_text().splitlines()
+        for name in (f" C{i + 1} " for i in range(count)):
+            own = [line for line in told if name in line]
+            steps.is_so(f"it is told why the link of{name}is ended", any(TOLD in line for line in own))
+            steps.is_so("and its link is ended", any(f"{name}link fault 4: " in line for line in own))
+            if count == 1:
+                print("".join(line + "\n" for line in own), end="")
     market.end()
 
 
 def main():
     seconds, steps = float(sys.argv[2]) if len(sys.argv) > 2 else 10.0, Steps()
-    for reads in (False, True):
-        run(steps, sys.argv[1], seconds, reads)
+    if len(sys.argv) > 3:
+        run(steps, sys.argv[1], seconds, False, int(sys.argv[3]), crowd)
+    else:
+        for reads in (False, True):
+            run(steps, sys.argv[1], seconds, reads)
     return 0 if steps.is_well else 1
 
 
