@@ -74,7 +74,8 @@ where
 {
     #[tactic(auto, using(crate::proofs::Served::none_yet, crate::proofs::Served::all_read, crate::proofs::Served::read_in_part))]
     /// Opens and reads links, numbered from 1, until the opener has no more (`true`), the flag is set, or the line has
-    /// no writer. Each link's writer has ended before the next is opened.
+    /// no writer. Each link's writer has ended before the next is opened. One that no writer took is reported as ended
+    /// too.
     fn read_links<R: Wait>(&mut self, rt: &R, alloc: Global, flag: &AtomicBool) -> bool
         ensures read { LineRead (reads_of self.old.peer) result (O.has_ended self.new.opener)
             (O.opened self.old.opener) (O.opened self.new.opener) self.old.fault self.new.fault
@@ -96,6 +97,7 @@ where
                     link += 1;
                     let read = self.read_link(rt, alloc, flag, link, opened);
                     let Some(end) = read else {
+                        self.opener.ended(LinkEnd::of_dropped(link));
                         return false;
                     };
                     self.fault = first_of(self.fault, end.fault());

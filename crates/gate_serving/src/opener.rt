@@ -1,7 +1,8 @@
 //! Where a line's links come from.
 
-ghost use Rattle.std.specs.Prelude.{◌≡◌};
+ghost use Rattle.std.specs.Prelude.{◌≡◌, Ok};
 ghost use Rattle.gate_serving.specs.Faults.{end_fault};
+ghost use Rattle.gate_workers.specs.declared.writer.WriterEnd.TheVariants.{Stopped};
 
 use gate_workers::{LinkFault, WriterEnd};
 use std::sync::atomic::AtomicBool;
@@ -71,6 +72,17 @@ pub struct LinkEnd {
 }
 
 impl LinkEnd {
+    /// The end of a link that was opened, and dropped as the line had no writer any more.
+    pub(crate) fn of_dropped(link: u64) -> LinkEnd
+        ensures { result ≡ record { link = link; reader = Ok tt; writer = Ok Stopped } }
+    {
+        LinkEnd {
+            link,
+            reader: Ok(()),
+            writer: Ok(WriterEnd::Stopped),
+        }
+    }
+
     /// The fault that ended the link, the reader's before the writer's; `None` where neither had one.
     pub fn fault(&self) -> Option<LinkFault>
         ensures { result ≡ end_fault self.now.reader self.now.writer }
