@@ -1,5 +1,6 @@
 // Refuses requests for memory at random, one in STRESS_REFUSE_ONE_IN, while the first word of the file
-// STRESS_REFUSE_FILE isn't 0, and counts in its second word what it refused and in its third what it was asked.
+// STRESS_REFUSE_FILE isn't 0, and counts in its second word what it refused and in its third what it was asked. With
+// STRESS_REFUSE_BEHIND_OUTPUT that word is set behind each write to standard output.
 #define _GNU_SOURCE
 #include <dlfcn.h>
 #include <errno.h>
@@ -8,6 +9,7 @@
 #include <stdint.h>
 #include <stdlib.h>
 #include <sys/mman.h>
+#include <sys/syscall.h>
 #include <unistd.h>
 
 struct shared {
@@ -16,6 +18,7 @@ struct shared {
 
 static struct shared *shared;
 static uint64_t one_in, seed;
+static int is_behind_output;
 
 __attribute__((constructor)) static void begin(void) {
     const char *file = getenv("STRESS_REFUSE_FILE"), *rate = getenv("STRESS_REFUSE_ONE_IN");
@@ -25,6 +28,7 @@ __attribute__((constructor)) static void begin(void) {
         return;
     }
     seed = chosen == NULL ? 1 : strtoull(chosen, NULL, 10);
+    is_behind_output = getenv("STRESS_REFUSE_BEHIND_OUTPUT") != NULL;
     void *mapped = mmap(NULL, sizeof *shared, PROT_READ | PROT_WRITE, MAP_SHARED, opened, 0);
     close(opened);
     shared = mapped == MAP_FAILED ? NULL : mapped;
@@ -78,4 +82,12 @@ int posix_memalign(void **pointer, size_t alignment, size_t size) {
     }
     *pointer = given;
     return 0;
+}
+
+ssize_t write(int file, const void *bytes, size_t size) {
+    ssize_t count = syscall(SYS_write, file, bytes, size);
+    if (file == STDOUT_FILENO && is_behind_output && shared != NULL) {
+        atomic_store(&shared->on, 1);
+    }
+    return count;
 }

@@ -35,6 +35,10 @@ class Refusing:
         return {"LD_PRELOAD": str(self.library), "STRESS_REFUSE_FILE": str(self.file),
                 "STRESS_REFUSE_ONE_IN": str(self.one_in), "STRESS_REFUSE_SEED": str(self.seed)}
 
+    def behind_output(self):
+        """The same, switched on behind each write to standard output."""
+        return {**self.environment(), "STRESS_REFUSE_BEHIND_OUTPUT": "1"}
+
     def switch(self, is_on):
         self.shared[:8] = struct.pack("=Q", is_on)
 

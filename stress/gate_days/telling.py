@@ -1,10 +1,12 @@
 """What is told on standard error, and a demonstration that doesn't come to its end."""
 import fcntl
+import re
 import subprocess
 import sys
 import threading
 import time
 
+from ..refusing import Refusing
 from .held_demo import NO_TRACE
 from .peers import PATIENCE, holds_within
 from .stage import LeftOut
@@ -57,6 +59,38 @@ def answered(client, number):
     return client.wait(lambda frame: frame.kind == b"3" and frame[45] == wanted, begin=max(0, number - 200)) is not None
 
 
+def an_order_that_stays_open(stage):
+    """an order that is open at the day's end is named and counted; where memory is refused for that, the audit is written
+    all the same, and the status is 1"""
+    stage.same("what is told", (0, ["A1 of C1: 100 of 100 open at the market",
+                                    "gateway: 1 orders are open at the market, 0 weren't answered"]), left_open(stage))
+    try:
+        refusing = Refusing(stage.folder, 1, 1)
+    except (OSError, subprocess.CalledProcessError) as it:
+        raise LeftOut(f"a library in C: {it}") from it
+    refused = [f"{name}={value}" for name, value in refusing.behind_output().items()]
+    stage.same("what is told then", (1, ["out of memory"]), left_open(stage, "env", *refused))
+    stage.holds("memory is refused", refusing.counted()[0] > 0)
+
+
+def left_open(stage, *before):
+    """A day that ends with an order open: the gateway's status, and its last lines, behind those of links."""
+    (client,), (address,) = stage.set_up(1)
+    stage.market(address)
+    gateway = stage.gateway("serve", before=before)
+    client.connect().log_on()
+    client.order(b"A1", price=b"1")
+    stage.holds("an order is open", client.told(b"A1", b"0") is not None)
+    asked, status = stage.end(gateway, "--now")
+    stage.same("whoever ends it", 0, asked)
+    stage.same("the audit", "C1 A1 side 1 executed 0 open 100 cancelled 0 value 0 agree\norders 1 agree 1\n",
+               gateway.output.read_text())
+    lines = gateway.lines()
+    ends = [at for at, line in enumerate(lines) if re.fullmatch(r"[CP]1 (gone|closed by the gateway|link fault .*)", line)]
+    stage.holds("the links' ends are told", ends, repr(lines))
+    return status, lines[ends[-1] + 1:]
+
+
 def a_demonstration_that_is_not_finished(stage):
     """a demonstration whose market fills nothing says so after ten seconds, with status 1 and no audit"""
     begin = time.monotonic()
@@ -81,4 +115,4 @@ def met_by_a_stranger(stage, listener):
 
 
 STEPS_OF_TELLING = (a_demonstration_that_is_not_finished, lines_that_nobody_reads, a_demonstration_with_a_fault,
-                    a_text_of_two_lines)
+                    an_order_that_stays_open, a_text_of_two_lines)
