@@ -119,11 +119,7 @@ impl Held {
 }
 
 /// Two trades in a list.
-fn two_of(
-    alloc: Global,
-    first: ToldTrade,
-    second: ToldTrade,
-) -> Result<Vec<ToldTrade>, AllocError>
+fn two_of(alloc: Global, first: ToldTrade, second: ToldTrade) -> Result<Vec<ToldTrade>, AllocError>
     ensures { IfOk result (λ two. two.items ≡ first ∷ second ∷ []) }
 {
     let mut two = Vec::with_capacity(alloc, ROOM)?;
