@@ -126,6 +126,40 @@ def no_thread(stage):
     stage.same("what another comes to", (1, "gateway: no thread\n"), (gateway.status(), gateway.errors.read_text()))
 
 
+def with_stacks(most):
+    """A step of a gateway whose threads have room for so many stacks of a GiB, and less each for what else there is."""
+
+    def some_threads(stage):
+        clients, (address,) = stage.set_up(4, control=False)
+        stage.market(address)
+        limits = f"export MALLOC_ARENA_MAX=1 && ulimit -s {GIB} && ulimit -v {(most + 1) * GIB}"
+        gateway = stage.gateway("run", before=behind(limits))
+        begin, had = time.monotonic(), set()
+        # until its lines have what threads there are
+        time.sleep(0.5)
+        while gateway.process.poll() is None and since(begin) < PATIENCE:
+            for client in [it for it in clients if it not in had]:
+                try:
+                    client.goes_on_over(socket.create_connection(client.where))
+                except OSError:
+                    continue
+                had.add(client)
+                if client.log_on() is not None:
+                    client.log_out()
+                client.ending()
+            time.sleep(0.02)
+        status, told = gateway.status(), gateway.lines()
+        stage.same("status", 1 if "gateway: no thread" in told else 0, status)
+        for name in (f"C{number}" for number in range(1, 5)):
+            ends = sum(line in (f"{name} gone", f"{name} closed by the gateway") for line in told)
+            stage.same(f"links of {name} that have ended", told.count(f"{name} up"), ends)
+
+    some_threads.__name__ = f"some_threads_of_{most}"
+    some_threads.__doc__ = (f"with room for {most} stacks at most a gateway of four clients ends, whichever of its lines have "
+                            "threads, and each link that came up is told as ended")
+    return some_threads
+
+
 def another_day(stage):
     """the journal of a gateway that was killed isn't ended by settings that give another day, and is by its own"""
     (client,), _ = stage.set_up(1, control=False)
@@ -145,4 +179,4 @@ def another_day(stage):
                stage.asked("end", "--settings", str(own), "--journal", journal)[:2])
 
 
-STEPS_OF_COUNTED_DAYS = (no_thread, all_come_and_go, lost_links, an_unlawful_market, another_day)
+STEPS_OF_COUNTED_DAYS = (no_thread, *(with_stacks(most) for most in (8, 9, 10, 11)), all_come_and_go, lost_links, an_unlawful_market, another_day)

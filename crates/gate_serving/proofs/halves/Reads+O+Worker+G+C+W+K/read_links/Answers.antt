@@ -29,7 +29,7 @@ loop-preserved g c = elim c.match-tried.branch [
       record {
         so_far = rw (w.link-is, w.self-is) (one_more
             (reads_of c.args.self.now.peer) c.loop.link _ _ _ _ _ _ w.in-Some-read.end _ _ _ c.loop.invariant.so_far
-            (w.ended.ensures.same ∙ (ap g.O.Opener.opened same.2 ∙ more)) w.in-Some-read.ensures.number
+            (w.ended-in-Ok.ensures.same ∙ (ap g.O.Opener.opened same.2 ∙ more)) w.in-Some-read.ensures.number
             (w.first_of-self-in-Ok.ensures ∙ rw (same.3, w.fault.ensures) refl) some);
         few = omega (arith, w.link-is, c.loop.invariant.few);
         none_taken = rw w.self-is (w.read_link-read.ensures.none_taken ∙ c.loop.invariant.none_taken);
