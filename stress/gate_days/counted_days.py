@@ -51,7 +51,7 @@ def an_unlawful_market(stage):
         client.order(b"A1")
         stage.holds(f"{client.name}'s order is filled", client.told(b"A1", b"F") is not None)
     first.raw.append(b"\x00\x03S00")
-    stage.holds("the gateway closes the port's link", holds_within(lambda: first.ends == ["end"]))
+    stage.holds("the gateway closes the port's link", holds_within(first.has_one_end))
     stage.holds("the fault is told", gateway.says(" P1 port fault 4: "))
     one.order(b"A2")
     refusal = one.told(b"A2", b"8")
@@ -102,7 +102,7 @@ def lost_links(stage):
         stage.holds(f"{client.name} is logged out", client.log_out() is not None)
         client.ending()
     stage.same("status and audit", (0, AUDIT), (gateway.status(), gateway.output.read_text()))
-    stage.holds("the other port's one link ends", holds_within(lambda: second.ends == ["end"]))
+    stage.holds("the other port's one link ends", holds_within(second.has_one_end))
     stage.same("the journal's audit", (0, AUDIT, ""),
                stage.asked("audit", "--journal", journal, "--settings", str(stage.settings)))
 

@@ -191,7 +191,7 @@ def a_silent_day(stage):
     stage.same("how the gateway ends", (0, 0), stage.end(gateway, "--now"))
     stage.within("seconds to the end", 0, since(begin), 30)
     stage.same("the client's link", "end", clients[0].ending())
-    stage.holds("the ports' links end", holds_within(lambda: all(it.ends == ["end"] for it in markets)))
+    stage.holds("the ports' links end", holds_within(lambda: all(it.has_one_end() for it in markets)))
 
 
 def processor(gateway):

@@ -167,6 +167,10 @@ class Market:
             self.ends.append(self.serve_link(stream))
             stream.close()
 
+    def has_one_end(self):
+        """It had one link, and the gateway ended it: by a reset where something was said to it at that moment."""
+        return self.ends in (["end"], ["reset"])
+
     def serve_link(self, stream):
         stream.settimeout(0.02)
         stream.setsockopt(socket.IPPROTO_TCP, socket.TCP_NODELAY, 1)

@@ -110,4 +110,9 @@ impl<'p, 'a, W: Prompt + Drop, G: OutletEnd + Drop, K: DeskName, S: BuildHasher 
     fn wake_writer(&self) {
         self.shared.ring(self.inlet.position());
     }
+
+    /// Nothing comes out of an inlet, so nobody waits for what lies there.
+    fn holds_up_others(&mut self) -> bool {
+        false
+    }
 }

@@ -229,6 +229,10 @@ impl<'a, G: Gate, K: DeskName, R: Wait + Clock + Eprint> Gate for RunGate<'a, G,
         self.is_given_up
     }
 
+    fn holds_up_others(&mut self) -> bool {
+        self.gate.holds_up_others()
+    }
+
     fn tell_skipped(&self, count: u64) {
         if let Some(teller) = &self.teller {
             teller.tell_skipped(count);
