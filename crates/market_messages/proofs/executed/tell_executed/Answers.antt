@@ -9,9 +9,16 @@ use Rattle.orders.specs.order_trades.declared.told_trade.ToldTrade.{ToldTrade}
 use Rattle.orders.specs.Seen.{progressed}
 use Rattle.to_client.specs.Occasions.{occasion_seen}
 use Rattle.to_client.specs.declared.occasion.Occasion.TheVariants as occasions
-use Rattle.market_messages.proofs.ExecutedRow.{filled-told, trade_said, traded-told}
+use Rattle.market_messages.proofs.ExecutedRow.{filled-told, trade-few, trade-new, trade-works, trade_said, traded-told}
 use Rattle.market_messages.proofs.Tells.{first-told, more-told}
 use Rattle.market_messages.proofs.executed.tell_executed.Goals as goal
+
+pub progress_after-progress-requires : goal.progress_after-progress-requires
+progress_after-progress-requires c =
+    let m = c.args.message.now in
+    let o = c.args.order.now in
+    let may = c.requires.may in
+    rw c.told_trade-told.ensures (trade-works m o may, trade-few m o may, trade-new m o may)
 
 pub returns-then-shares-order-clause-told : goal.returns-then-shares-order-clause-told
 returns-then-shares-order-clause-told c =
