@@ -9,7 +9,7 @@ use Rattle.orders.specs.order_trades.declared.told_trade.ToldTrade.{ToldTrade}
 use Rattle.orders.specs.Seen.{progressed}
 use Rattle.to_client.specs.Occasions.{occasion_seen}
 use Rattle.to_client.specs.declared.occasion.Occasion.TheVariants as occasions
-use Rattle.market_messages.proofs.ExecutedRow.{filled-told, trade-few, trade-new, trade-works, trade_said, traded-told}
+use Rattle.market_messages.proofs.ExecutedRow.{filled-told, trade_said, trade-few, trade-new, trade-works, traded-told}
 use Rattle.market_messages.proofs.Tells.{first-told, more-told}
 use Rattle.market_messages.proofs.executed.tell_executed.Goals as goal
 
