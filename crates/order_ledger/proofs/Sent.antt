@@ -9,6 +9,7 @@ use Rattle.std.proofs.Crossing.{crosses}
 use Rattle.new_orders.specs.client_requests.orders.contracts.order.Order as Order
 use Rattle.new_orders.specs.client_requests.orders.contracts.requests.Cancelling as Cancelling
 use Rattle.new_orders.specs.client_requests.orders.contracts.requests.Replacing as Replacing
+use Rattle.new_orders.specs.client_requests.orders.order_trades.contracts.trades.Trades as Trades
 use Rattle.new_orders.specs.order_table.contracts.table.Table as Table
 use Rattle.order_ledger.specs.contracts.ledger.OrderLedger as OrderLedger
 use Rattle.order_ledger.specs.contracts.used_ids.UsedIds as UsedIds
@@ -19,12 +20,15 @@ replacing = search (sendable, crosses) depth 100 fits 500000
 cancelling : IsSend Cancelling.the_row
 cancelling = search (sendable, crosses) depth 100 fits 500000
 
+trades : IsSend Trades.the_row
+trades = search (sendable, crosses) depth 100 fits 500000
+
 order : IsSend Order.the_row
-order = search (replacing, cancelling, sendable, crosses) depth 100 fits 500000
+order = search (trades, replacing, cancelling, sendable, crosses) depth 100 fits 500000
 
 module _ (S T : RattleType) (g : BuildHasher.Ghosts S.Denot T.Denot) (h : Hasher.Ghosts T.Denot) (s : IsSend S) where
   table : IsSend (Table.the_row S T g h)
-  table = search (order, replacing, cancelling, sendable, crosses) depth 100 fits 500000
+  table = search (order, trades, replacing, cancelling, sendable, crosses) depth 100 fits 500000
 
   used : IsSend (UsedIds.the_row S T g h)
   used = search (sendable, crosses) depth 100 fits 500000
