@@ -1,4 +1,5 @@
 """Days of `gateway run`, which serves a counted number of links of each client, and then ends by itself."""
+import os
 import re
 import resource
 import signal
@@ -126,38 +127,40 @@ def no_thread(stage):
     stage.same("what another comes to", (1, "gateway: no thread\n"), (gateway.status(), gateway.errors.read_text()))
 
 
-def with_stacks(most):
-    """A step of a gateway whose threads have room for so many stacks of a GiB, and less each for what else there is."""
-
-    def some_threads(stage):
-        clients, (address,) = stage.set_up(4, control=False)
-        stage.market(address)
+def some_threads(stage):
+    """a gateway of four clients that has threads for some of its lines alone ends once no client was served for ten
+    seconds, and says why; each link that came up is told as ended"""
+    clients, (address,) = stage.set_up(4, control=False)
+    stage.market(address)
+    # a thread has a GiB for its stack: there is room for so many, but how many the system gives differs
+    for most in (8, 9, 10, 7) * 5:
         limits = f"export MALLOC_ARENA_MAX=1 && ulimit -s {GIB} && ulimit -v {(most + 1) * GIB}"
         gateway = stage.gateway("run", before=behind(limits))
         begin, had = time.monotonic(), set()
-        # until its lines have what threads there are
         time.sleep(0.5)
-        while gateway.process.poll() is None and since(begin) < PATIENCE:
-            for client in [it for it in clients if it not in had]:
-                try:
-                    client.goes_on_over(socket.create_connection(client.where))
-                except OSError:
-                    continue
-                had.add(client)
-                if client.log_on() is not None:
-                    client.log_out()
-                client.ending()
-            time.sleep(0.02)
-        status, told = gateway.status(), gateway.lines()
-        stage.same("status", 1 if "gateway: no thread" in told else 0, status)
-        for name in (f"C{number}" for number in range(1, 5)):
-            ends = sum(line in (f"{name} gone", f"{name} closed by the gateway") for line in told)
-            stage.same(f"links of {name} that have ended", told.count(f"{name} up"), ends)
-
-    some_threads.__name__ = f"some_threads_of_{most}"
-    some_threads.__doc__ = (f"with room for {most} stacks at most a gateway of four clients ends, whichever of its lines have "
-                            "threads, and each link that came up is told as ended")
-    return some_threads
+        # two for each of five lines, beside the first one and the one that writes standard error
+        if gateway.process.poll() is None and 4 <= len(os.listdir(f"/proc/{gateway.process.pid}/task")) < 12:
+            break
+        gateway.process.kill()
+        gateway.status()
+    else:
+        raise LeftOut("all threads can be had here, or none")
+    while gateway.process.poll() is None and since(begin) < PATIENCE:
+        for client in [it for it in clients if it not in had]:
+            try:
+                client.goes_on_over(socket.create_connection(client.where))
+            except OSError:
+                continue
+            had.add(client)
+            if client.log_on() is not None:
+                client.log_out()
+            client.ending()
+        time.sleep(0.02)
+    status, told = gateway.status(), gateway.lines()
+    stage.same("status and last line", (1, "gateway: no thread"), (status, told[-1] if told else ""))
+    for name in (f"C{number}" for number in range(1, 5)):
+        ends = sum(line in (f"{name} gone", f"{name} closed by the gateway") for line in told)
+        stage.same(f"links of {name} that have ended", told.count(f"{name} up"), ends)
 
 
 def another_day(stage):
@@ -179,4 +182,4 @@ def another_day(stage):
                stage.asked("end", "--settings", str(own), "--journal", journal)[:2])
 
 
-STEPS_OF_COUNTED_DAYS = (no_thread, *(with_stacks(most) for most in (8, 9, 10, 11)), all_come_and_go, lost_links, an_unlawful_market, another_day)
+STEPS_OF_COUNTED_DAYS = (no_thread, some_threads, all_come_and_go, lost_links, an_unlawful_market, another_day)
