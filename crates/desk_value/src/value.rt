@@ -240,6 +240,7 @@ impl<K: DeskName, S: BuildHasher + Drop> Desk<K, S> {
         ensures named { AreNamed K.inlets result.history.events }
         ensures told { (finished : List Done) → AreReleased finished self.side.ways
             → ToldIsKept finished result.journal }
+        ensures lost { result.lost ≡ lost }
     {
         let Desk {
             recorded,

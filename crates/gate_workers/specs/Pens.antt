@@ -1,5 +1,5 @@
 -- What a pen keeps, whoever wrote: what its links were told, what is on their streams, and what is held.
-use Rattle.std.specs.Prelude.{◌≡◌, ◌⊎◌, ℕ, ◌+◌, ◌++◌, false, List, [], length, Option, Some, None, Result, Err, ⊤}
+use Rattle.std.specs.Prelude.{◌≡◌, ◌⊎◌, ℕ, ◌+◌, ◌-◌, ◌++◌, false, List, [], length, Option, Some, None, Result, Err, ⊤}
 use Rattle.std.specs.Io.KnownBytes.{Appends}
 use Rattle.link_io.specs.Events.{LinkOut}
 use Rattle.link_io.specs.Answered.{TriesOnce}
@@ -44,6 +44,13 @@ abbrev pub Opens : {W G : Type 0} → (gate : G) → (stream : W) → Option (Li
 Opens gate stream None = ⊥
 Opens gate stream (Some link) =
     (link.gate_then.value ≡ gate) × (link.stream_then.value ≡ stream) × (link.stream ≡ stream)
+
+-- its writer is of this client or port and link, with so many steps
+abbrev pub OpensAs : {W G : Type 0} → (number link steps : ℕ) → Option (Link W G) → Type 0
+OpensAs number n steps None = ⊥
+OpensAs number n steps (Some link) =
+    (link.writer.number ≡ number) × (link.writer.link ≡ n)
+    × (link.writer.limit ≡ record { left = steps - 1; over = None })
 
 -- the link that was written is written still, or none was and none is
 abbrev pub SameLink : {W G : Type 0} → (old new : Option (Link W G)) → Type 0

@@ -3,7 +3,7 @@
 ghost use Rattle.std.specs.Prelude.{◌≡◌, ◌≤◌, ◌+◌, [], None, Some, true, false, IfOk, IfErr, OnOk};
 ghost use Rattle.gate_workers.specs.WritersWork.{LineWritten};
 ghost use Rattle.gate_workers.specs.Steps.{step_end};
-ghost use Rattle.gate_workers.specs.Pens.{PenKept, SameLink, LinkTried, NothingHeld, Opens, StepsPen};
+ghost use Rattle.gate_workers.specs.Pens.{PenKept, SameLink, LinkTried, NothingHeld, Opens, OpensAs, StepsPen};
 
 use crate::ending::ends_link;
 use crate::link::Link;
@@ -53,6 +53,7 @@ impl<W: Prompt + Drop, G: Gate + Drop> Work<W, G> {
     ) -> Result<(), W>
         requires from_one { 1 ≤ steps }
         ensures opens { OnOk result (Opens self.old.gate stream self.new.link) }
+        ensures writer { OnOk result (OpensAs number link steps self.new.link) }
         ensures links { OnOk result ((self.new.links ≡ self.old.links + 1) × (self.new.links ≡ link)) }
         ensures back { IfErr result (λ back. (back ≡ stream) × (self.new.link ≡ self.old.link)
             × (self.new.links ≡ self.old.links)) }

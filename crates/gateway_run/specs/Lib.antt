@@ -1,3 +1,4 @@
+pub mod Faults
 pub mod Openers
 pub mod Own
 pub mod Stopped

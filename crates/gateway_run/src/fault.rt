@@ -1,5 +1,9 @@
 //! Why a gateway could not run to its end.
 
+ghost use Rattle.std.specs.Prelude.{◌≡◌};
+ghost use Rattle.gateway_run.specs.Faults.{run_fault};
+ghost use Rattle.gateway_run.specs.declared.fault.RunFault.TheVariants.{NoMemory};
+
 use gate_serving::ServeFault;
 use std::alloc::AllocError;
 
@@ -18,12 +22,16 @@ pub enum RunFault {
 }
 
 impl From<AllocError> for RunFault {
+    ghost from_gives = { λ _ fault. fault ≡ NoMemory };
+
     fn from(_: AllocError) -> RunFault {
         RunFault::NoMemory
     }
 }
 
 impl From<ServeFault> for RunFault {
+    ghost from_gives = { λ served fault. fault ≡ run_fault served };
+
     fn from(fault: ServeFault) -> RunFault {
         match fault {
             ServeFault::NoMemory => RunFault::NoMemory,

@@ -32,12 +32,9 @@ pub struct Acceptor<'a, R> {
 
 impl<'a, R> Acceptor<'a, R> {
     /// For this many links at an address, until `is_over` is set. Binds at the first of them. Takes no memory.
-    pub fn new(
-        rt: &'a R,
-        address: &'a str,
-        links: u32,
-        is_over: &'a AtomicBool,
-    ) -> Acceptor<'a, R> {
+    pub fn new(rt: &'a R, address: &'a str, links: u32, is_over: &'a AtomicBool) -> Acceptor<'a, R>
+        ensures { (result.opened ≡ 0) × (result.left ≡ links) }
+    {
         Acceptor {
             rt,
             address,
@@ -54,7 +51,9 @@ impl<'a, R> Acceptor<'a, R> {
         listener: TcpListener,
         links: u32,
         is_over: &'a AtomicBool,
-    ) -> Acceptor<'a, R> {
+    ) -> Acceptor<'a, R>
+        ensures { (result.opened ≡ 0) × (result.left ≡ links) }
+    {
         let _ = is_timed(&listener);
         Acceptor {
             rt,

@@ -31,12 +31,9 @@ pub struct Connector<'a, R> {
 
 impl<'a, R> Connector<'a, R> {
     /// For this many links to an address, until `is_over` is set. Takes no memory.
-    pub fn new(
-        rt: &'a R,
-        address: &'a str,
-        links: u32,
-        is_over: &'a AtomicBool,
-    ) -> Connector<'a, R> {
+    pub fn new(rt: &'a R, address: &'a str, links: u32, is_over: &'a AtomicBool) -> Connector<'a, R>
+        ensures { (result.opened ≡ 0) × (result.left ≡ links) }
+    {
         Connector {
             rt,
             address,

@@ -1,6 +1,7 @@
 //! The log.
 
-ghost use Rattle.std.specs.Prelude.{◌≡◌, ◌<◌, ◌≤◌, ◌++◌, ◌∷◌, [], List, None, OnErr, OnOk, length, ℕ};
+ghost use Rattle.std.specs.Prelude.{◌≡◌, ◌<◌, ◌≤◌, ◌++◌, ◌∷◌, [], IsErrOf, List, None, OnErr, OnOk, Some, length, ℕ};
+ghost use Rattle.day_log.specs.declared.fault.LogFault.TheVariants.{Ended, Failed};
 ghost use Rattle.gate_journal.specs.Kept.{kept_in};
 ghost use Rattle.journal_days.specs.Cut.{IsMoreOf};
 ghost use Rattle.day_log.specs.Log.{IsSettled};
@@ -58,6 +59,7 @@ impl<F: LogFile> TurnLog<F> {
             → IsMoreOf before history.now.pages → HasDay F.seen F.may_leave history.now.pages self.new) }
         ensures kept { OnErr result ((before : List (List ℕ)) → HasDay F.seen F.may_leave before self.old
             → HasDay F.seen F.may_leave before self.new) }
+        ensures failed { IsErrOf result Failed → self.new.shut ≡ Some Failed }
         ensures history { history.now ≡ kept_in history.now.pages }
     {
         let pages = history.pages();
@@ -79,6 +81,8 @@ impl<F: LogFile> TurnLog<F> {
     /// `Failed` where the file fails, and from then on; `NoMemory` leaves the log as it was. Whatever it answers, each
     /// crash leaves what the log had.
     pub fn end(&mut self) -> Result<(), LogFault>
+        ensures ended { OnOk result (self.new.shut ≡ Some Ended) }
+        ensures failed { IsErrOf result Failed → self.new.shut ≡ Some Failed }
         ensures kept { (before : List (List ℕ)) → HasDay F.seen F.may_leave before self.old
             → HasDay F.seen F.may_leave before self.new }
     {
@@ -96,6 +100,7 @@ fn put_page<F: LogFile>(log: &mut DayLog<F>, page: &[u8]) -> Result<(), LogFault
     ensures kept { OnErr result ((before : List (List ℕ))
         → HasPages F.seen F.may_leave before log.old.file log.old.shut
         → HasPages F.seen F.may_leave before log.new.file log.new.shut) }
+    ensures failed { IsErrOf result Failed → log.new.shut ≡ Some Failed }
 {
     if page.len() <= FRONT {
         return Ok(());
