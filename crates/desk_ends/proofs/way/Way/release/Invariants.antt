@@ -15,6 +15,7 @@ invariant-loop-told l = record {
       ≡ known_free l.initial.self-inside.producer - deque_len l.initial.self-inside.staged;
   cut : l.self-inside.cut ≡ l.initial.self-inside.cut;
   stages : l.self-inside.stages ≡ l.initial.self-inside.stages;
+  more : l.self-inside.more ≡ l.initial.self-inside.more;
 }
 
 abbrev pub decreases-loop-told : goal.decreases-loop-told
