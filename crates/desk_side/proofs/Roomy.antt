@@ -2,6 +2,8 @@
 use Rattle.std.proofs.Common.{◌≡◌, ◌≤◌, ◌-◌, ℕ, Bool, true, false, List, refl, ◌∙◌, arith, inl, inr}
 use Rattle.desk_ends.specs.Seats.{KnowsRoom, WayState, WayLooked, WayMayRelease, WayMayStage, WaySent, WaysLooked}
 use Rattle.desk_ends.specs.Seats.{WaysMayRelease, WaysMayStage}
+use Rattle.desk_ends.specs.Sizes.{room_beside}
+use Rattle.desk_ends.proofs.Sizes.{beside-most}
 use Rattle.std.specs.Prelude.{if◌then◌else◌}
 use Rattle.gate_events.specs.Sources.{unless_empty}
 use Rattle.desk_side.specs.declared.said.Said.{Said}
@@ -57,9 +59,9 @@ release-room n old new same all d v at =
     keeps-room n w.0 v w.2.2 w.2.3 (all d w.0 w.1)
 
 -- as much as a way knows
-pub least-room : (n : ℕ) (w : WayState) → n ≡ (if w.cut then 18446744073709551615 else w.free) → KnowsRoom n w
+pub least-room : (n : ℕ) (w : WayState) → n ≡ (if w.cut then 18446744073709551615 else room_beside w.free w.more) → KnowsRoom n w
 least-room n w is = by_cut w.cut refl is
   where
-    by_cut : (b : Bool) → w.cut ≡ b → n ≡ (if b then 18446744073709551615 else w.free) → KnowsRoom n w
+    by_cut : (b : Bool) → w.cut ≡ b → n ≡ (if b then 18446744073709551615 else room_beside w.free w.more) → KnowsRoom n w
     by_cut true cut is = inl cut
-    by_cut false cut is = inr (omega (arith, is))
+    by_cut false cut is = inr (omega (arith, is, beside-most w.free w.more))

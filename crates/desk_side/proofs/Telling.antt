@@ -11,6 +11,8 @@ use Rattle.gate_events.specs.declared.source.Recipient.TheVariants as recipients
 use Rattle.gate_events.specs.Sources.{unless_empty}
 use Rattle.desk_ends.specs.Seats.{SeatState, WayState, WayLooked, WaySent, WaysLooked}
 use Rattle.desk_ends.proofs.Places.{get-same, get-set-same}
+use Rattle.desk_ends.specs.Sizes.{room_beside}
+use Rattle.desk_ends.proofs.Sizes.{beside-most}
 use Rattle.desk_side.specs.declared.said.Said.{Said}
 use Rattle.desk_side.specs.Said.{list_for}
 use Rattle.desk_side.specs.Places.{client_place, is_aimed, port_place, recipient_at}
@@ -35,23 +37,26 @@ way-stays w = record {
   lost = λ so. refl;
   stays = λ either. refl;
   takes = omega arith;
+  most = omega arith;
+  counts = λ isnt. inl (omega arith);
   stages = refl;
   waits = λ so. refl;
 }
 
 -- a way that isn't full has room, or is cut
-room-by : (kept : ℕ) (v : WayState) (full : Bool) → ((v.cut ≡ false) × (v.free ≤ kept) → full ≡ true) → full ≡ false
+room-by : (kept : ℕ) (v : WayState) (full : Bool)
+    → ((v.cut ≡ false) × (room_beside v.free v.more ≤ kept) → full ≡ true) → full ≡ false
     → (cut : Bool) → v.cut ≡ cut → (v.cut ≡ true) ⊎ (kept < v.free)
 room-by kept v full is isnt true cut = inl cut
 room-by kept v full is isnt false cut =
-    elim (leb_tells v.free kept) [
+    elim (leb_tells (room_beside v.free v.more) kept) [
       | inl q ↦ absurd (cc (is (cut, q.1), isnt))
-      | inr q ↦ inr (omega (arith, q.1))
+      | inr q ↦ inr (omega (arith, q.1, beside-most v.free v.more))
     ]
 
 pub has-room : (kept : ℕ) (ways : List WayState) (i d : ℕ) (v w : WayState) (full : Bool) → i < length ways → d ≡ i
     → slice_get (slice_set ways i v) d ≡ Some w
-    → ((v.cut ≡ false) × (v.free ≤ kept) → full ≡ true) → full ≡ false → (w.cut ≡ true) ⊎ (kept < w.free)
+    → ((v.cut ≡ false) × (room_beside v.free v.more ≤ kept) → full ≡ true) → full ≡ false → (w.cut ≡ true) ⊎ (kept < w.free)
 has-room kept ways i d v w full inside place at is isnt =
     let same : v ≡ w = get-same (slice_set ways i v) i v w (get-set-same ways i v inside) (rw place at at) in
     subst (λ (z : WayState). (z.cut ≡ true) ⊎ (kept < z.free)) same (room-by kept v full is isnt v.cut refl)
@@ -173,7 +178,7 @@ module _ (kept clients ports : ℕ) (client port : Option ℕ) (new : List WaySt
       ]
 
   pub client-held : (d : ℕ) (w : WayState) → client_place clients client ≡ Some d → slice_get new d ≡ Some w
-      → w.cut ≡ false → w.free ≤ kept → LacksRoom kept client port new
+      → w.cut ≡ false → room_beside w.free w.more ≤ kept → LacksRoom kept client port new
   client-held d w place at cut free =
       let was = client-place-was clients d client place in (
         d,
@@ -186,7 +191,7 @@ module _ (kept clients ports : ℕ) (client port : Option ℕ) (new : List WaySt
       )
 
   pub port-held : (d : ℕ) (w : WayState) → port_place clients ports port ≡ Some d → slice_get new d ≡ Some w
-      → w.cut ≡ false → w.free ≤ kept → LacksRoom kept client port new
+      → w.cut ≡ false → room_beside w.free w.more ≤ kept → LacksRoom kept client port new
   port-held d w place at cut free =
       let was = port-place-was clients ports d port place in (
         d,

@@ -2,6 +2,7 @@
 use Rattle.std.specs.Prelude.{◌≡◌, ◌≢◌, ℕ, ◌+◌, ◌<◌, ◌≤◌, ◌⊎◌, true, false, Option, Some, slice_get, length, List}
 use Rattle.gate_events.specs.Sources.{unless_empty}
 use Rattle.desk_ends.specs.Seats.{KnowsRoom, SeatState, WayState, WaySent}
+use Rattle.desk_ends.specs.Sizes.{room_beside}
 use Rattle.desk_side.specs.declared.said.Said.{Said}
 use Rattle.desk_side.specs.Said.{list_for}
 use Rattle.desk_side.specs.Places.{is_aimed, recipient_at, source_at}
@@ -41,7 +42,7 @@ HaveRoom kept_free client port ways = (d : ℕ) (w : WayState) → slice_get way
 abbrev pub AllKnowRoom : ℕ → List WayState → Type 0
 AllKnowRoom count ways = (d : ℕ) (w : WayState) → slice_get ways d ≡ Some w → KnowsRoom count w
 
--- one of them isn't cut and knows of none
+-- one of them isn't cut and knows of none beside the lists that lie there, of which long ones count for more places
 abbrev pub LacksRoom : ℕ → Option ℕ → Option ℕ → List WayState → Type 0
 LacksRoom kept_free client port ways = (d : ℕ) × (w : WayState) × (slice_get ways d ≡ Some w)
-    × (is_aimed client port w.name.to ≡ true) × (w.cut ≡ false) × (w.free ≤ kept_free)
+    × (is_aimed client port w.name.to ≡ true) × (w.cut ≡ false) × (room_beside w.free w.more ≤ kept_free)

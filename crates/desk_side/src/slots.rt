@@ -4,6 +4,7 @@ ghost use Rattle.std.specs.Prelude.{◌≡◌, ◌<◌, ◌≤◌, ◌⊎◌, �
 ghost use Rattle.gate_events.specs.Sources.{unless_empty};
 ghost use Rattle.desk_ends.specs.Seats.{AllReleased, AllStage, SeatState, SeatGave, SeatLooked, WayState, WaySent};
 ghost use Rattle.desk_ends.specs.Seats.{WaysLooked, WaysMayRelease, WaysMayStage};
+ghost use Rattle.desk_ends.specs.Sizes.{room_beside};
 ghost use Rattle.desk_side.specs.Side.{AllKnowRoom, ChangesAt};
 
 use desk_ends::{Seat, Way};
@@ -34,7 +35,7 @@ pub(crate) fn is_full_at(ways: &mut Vec<Way>, place: Option<usize>, kept_free: u
     requires inside { IfSome place (λ d. d < length ways.old.items) }
     ensures looked { WaysLooked ways.old.items ways.new.items }
     ensures full { result ≡ true → (d : ℕ) × (w : WayState) × (place ≡ Some d) × (slice_get ways.new.items d ≡ Some w)
-        × (w.cut ≡ false) × (w.free ≤ kept_free) }
+        × (w.cut ≡ false) × (room_beside w.free w.more ≤ kept_free) }
     ensures room { result ≡ false → (d : ℕ) (w : WayState) → place ≡ Some d → slice_get ways.new.items d ≡ Some w
         → (w.cut ≡ true) ⊎ (kept_free < w.free) }
 {
