@@ -16,8 +16,8 @@ pub record SeatState : Type 0 where
   pub known : List Event
 
 -- a way: every list that was sent by it, those of them that were released into the ring, whether lists wait beside the
--- ring until then, for how many more it knows room, for how many places more those count that may lie there, and whether
--- it is cut: then a list for its recipient was sent by no way, and none is any more
+-- ring until then, for how many more it knows room, for how many places more those count that may lie there, and
+-- whether it is cut: then a list for its recipient was sent by no way, and none is any more
 pub record WayState : Type 0 where
   pub name : NamedOutlet
   pub sent : List (List LinkOut)

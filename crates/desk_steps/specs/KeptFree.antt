@@ -1,7 +1,7 @@
 -- How many places of an outlet's ring an event leaves free. The ring has 2,112: what a client says uses 1,024 of them,
 -- so that one that doesn't take its lists holds up neither its market's messages nor time; what a market says uses
--- 1,024 more, and 64 are for time alone. A long list counts for more than one of those that what a client says uses, and
--- for one of the others. (Own.)
+-- 1,024 more, and 64 are for time alone. A long list counts for more than one of those that what a client says uses,
+-- and for one of the others. (Own.)
 use Rattle.std.specs.Prelude.{ℕ}
 use Rattle.gate_journal.specs.gate_law.Events.{Event, ClientUp, ClientMessage, ClientGone, ClientTick, PortUp}
 use Rattle.gate_journal.specs.gate_law.Events.{PortPacket, PortGone}
