@@ -49,7 +49,7 @@ pub seat-stays : (a : SeatState) → SeatLooked a a
 seat-stays a = (refl, refl, ([], append-nil a.known))
 
 pub way-stays : (w : WayState) → WayLooked w w
-way-stays w = (refl, refl, refl, omega arith, refl, refl, inl refl)
+way-stays w = (refl, refl, refl, omega arith, refl, refl, refl, inl refl)
 
 pub seats-stay : (seats : List SeatState) → SeatsLooked seats seats
 seats-stay seats = record { count = refl; each = λ k a at. (a, at, seat-stays a) }

@@ -18,7 +18,14 @@ abbrev pub all_more : List (List LinkOut) → ℕ
 all_more [] = 0
 all_more (list ∷ lists) = more_places list + all_more lists
 
+-- Of the places of an outlet's ring, those that are for what its market says and for time: a client's own events leave
+-- them free.
+abbrev pub for_markets_and_time : ℕ
+for_markets_and_time = 1_088
+
 -- Of so many free places those that a client's own events find, where the lists that lie there count for so many more:
--- 1,088 are free to others whatever lies there.
+-- the others are free to markets and time whatever lies there.
 abbrev pub room_beside : ℕ → ℕ → ℕ
-room_beside free more = if nat_le free 1_088 then free else if nat_le (free - more) 1_088 then 1_088 else free - more
+room_beside free more =
+    if nat_le free for_markets_and_time then free
+    else if nat_le (free - more) for_markets_and_time then for_markets_and_time else free - more

@@ -22,4 +22,4 @@ pub use name::DeskName;
 pub use outlet::Outlet;
 pub use seat::Seat;
 pub use size::more_places;
-pub use way::Way;
+pub use way::{FOR_MARKETS_AND_TIME, Way};

@@ -12,9 +12,9 @@ use std::alloc::{AllocError, Global};
 use std::collections::VecDeque;
 use std::marker::Model;
 
-/// Of an outlet's queue, the places that are free to others than a client's own events, however long the lists are that
-/// lie there.
-const FOR_OTHERS: usize = 1_088;
+/// Of the places of an outlet's queue, those that are for what its market says and for time: a client's own events
+/// leave them free, and they are free however long the lists are that lie there.
+pub const FOR_MARKETS_AND_TIME: usize = 1_088;
 
 /// The desk's end of an outlet's queue, by which output lists go into it. Contracts see its queue and recipient, what
 /// went in, for how many more lists it knows room, for how many places more its lists count, and whether it is cut.
@@ -46,7 +46,7 @@ pub struct Way {
 impl Model for Way {
     ghost use Rattle.std.specs.Prelude.{◌++◌, ◌-◌};
     ghost use Rattle.std.specs.VecDeque.{deque_len};
-    ghost use Rattle.rtrb.specs.Ring.{sent, known_free};
+    ghost use Rattle.rtrb.specs.Ring.{sent, known_free, producer_capacity};
     ghost use Rattle.desk_ends.specs.Rings.{producer_ring};
     ghost use Rattle.desk_ends.specs.Seats.{WayState};
 
@@ -57,6 +57,7 @@ impl Model for Way {
       sent = sent w.producer ++ w.staged.items;
       released = sent w.producer;
       stages = w.stages;
+      places = producer_capacity w.producer;
       free = known_free w.producer - deque_len w.staged;
       more = w.more;
       cut = w.cut;
@@ -66,17 +67,16 @@ impl Model for Way {
 impl Way {
     ghost use Rattle.std.specs.Prelude.{◌≡◌, ◌≤◌, ◌↔◌, IsTrue, OnOk, false, if◌then◌else◌};
     ghost use mathlib.Core.List.{IsPrefix};
-    ghost use Rattle.rtrb.specs.Ring.{sent, known_free, received};
+    ghost use Rattle.rtrb.specs.Ring.{sent, known_free, producer_capacity, received};
     ghost use Rattle.gate_events.specs.Sources.{unless_empty};
     ghost use Rattle.desk_ends.specs.Rings.{consumer_ring, producer_ring};
-    ghost use Rattle.desk_ends.specs.Seats.{IsStaging, WayLooked, WayMayRelease, WayMayStage, WaySent};
-    ghost use Rattle.desk_ends.specs.Sizes.{room_beside};
+    ghost use Rattle.desk_ends.specs.Seats.{IsStaging, WayLooked, WayMayRelease, WayMayStage, WaySent, way_room};
 
     /// The end of a queue to a recipient. It isn't cut, and stages nothing. Takes no memory.
     pub fn new(alloc: Global, to: Recipient, producer: Producer<Told>) -> Way
         ensures name { result.name ≡ record { to = to; ring = producer_ring producer } }
         ensures lists { (result.sent ≡ sent producer) × (result.free ≡ known_free producer) }
-        ensures light { result.more ≡ 0 }
+        ensures places { (result.places ≡ producer_capacity producer) × (result.more ≡ 0) }
         ensures released { (result.released ≡ sent producer) × (result.stages ≡ false) }
         ensures whole { result.cut ≡ false }
     {
@@ -123,8 +123,8 @@ impl Way {
     /// A list for a cut way needs no room.
     pub fn is_full(&mut self, kept_free: usize) -> bool
         ensures looked { WayLooked self.old self.new }
-        ensures value { IsTrue result ↔ ((self.new.cut ≡ false)
-            × (room_beside self.new.free self.new.more ≤ kept_free)) }
+        ensures value { IsTrue result ↔ ((self.new.cut ≡ false) × (way_room self.new ≤ kept_free)) }
+        ensures forgets { result ≡ true → self.new.places ≤ self.new.free → self.new.more ≡ 0 }
     {
         !self.cut && self.known_room() <= kept_free && self.look() <= kept_free
     }
@@ -132,15 +132,15 @@ impl Way {
     /// For how many more lists there is room, after a look into the queue; `usize::MAX` if the way is cut.
     pub fn room(&mut self) -> usize
         ensures looked { WayLooked self.old self.new }
-        ensures value { result
-            ≡ (if self.new.cut then 18446744073709551615 else room_beside self.new.free self.new.more) }
+        ensures value { result ≡ (if self.new.cut then 18446744073709551615 else way_room self.new) }
+        ensures forgets { self.new.cut ≡ false → self.new.places ≤ self.new.free → self.new.more ≡ 0 }
     {
         if self.cut { usize::MAX } else { self.look() }
     }
 
     /// For how many more lists it knows room, without a look.
     fn known_room(&self) -> usize
-        ensures { result ≡ room_beside self.now.free self.now.more }
+        ensures { result ≡ way_room self.now }
     {
         let staged = self.staged.len();
         room_beside_more(self.producer.cached_slots() - staged, self.more)
@@ -149,11 +149,12 @@ impl Way {
     /// For how many more lists there is room, after a look into the queue. Where it is empty no list counts any more.
     fn look(&mut self) -> usize
         ensures looked { WayLooked self.old self.new }
-        ensures value { result ≡ room_beside self.new.free self.new.more }
+        ensures value { result ≡ way_room self.new }
+        ensures forgets { self.new.places ≤ self.new.free → self.new.more ≡ 0 }
     {
         let staged = self.staged.len();
         let free = self.producer.slots() - staged;
-        if free == self.producer.capacity() {
+        if free >= self.producer.capacity() {
             self.more = 0;
         }
         room_beside_more(free, self.more)
@@ -199,9 +200,9 @@ impl Way {
 fn room_beside_more(free: usize, more: usize) -> usize
     ensures { result ≡ room_beside free more }
 {
-    if free <= FOR_OTHERS {
+    if free <= FOR_MARKETS_AND_TIME {
         free
     } else {
-        free.saturating_sub(more).max(FOR_OTHERS)
+        free.saturating_sub(more).max(FOR_MARKETS_AND_TIME)
     }
 }

@@ -1,6 +1,7 @@
 //! All queues of a desk, from the desk's side.
 
 ghost use Rattle.std.specs.Prelude.{◌≡◌, ◌≢◌, ◌<◌, ◌≤◌, ◌-◌, ◌^◌, ◌==◌, [], Some, None, ℕ, if◌then◌else◌};
+ghost use Rattle.desk_ends.specs.Sizes.{more_places as places_more};
 
 use crate::places::{client_number, place_of_client, place_of_port, port_number};
 use crate::said::Said;
@@ -254,7 +255,8 @@ impl Side {
 /// For how many lists each way has room behind a batch's output, where it had room for so many: for one list less, and
 /// for as many less as the longer list counts for more.
 fn roomy_behind(roomy: usize, client_told: &Told, port_told: &Told) -> usize
-    ensures { result ≤ roomy - 1 }
+    ensures client { result ≤ roomy - 1 - places_more client_told.now }
+    ensures port { result ≤ roomy - 1 - places_more port_told.now }
 {
     let more = more_places(client_told).max(more_places(port_told));
     roomy.saturating_sub(1).saturating_sub(more)

@@ -1,5 +1,4 @@
 use Rattle.std.proofs.Common.{◌≡◌, ◌≤◌, ◌<◌, map, take}
-use Rattle.std.specs.Prelude.{nat_le, if◌then◌else◌}
 use Rattle.gate_events.specs.Seen.{link_out_seen}
 use Rattle.desk_ends.specs.Sizes.{list_size}
 use Rattle.desk_ends.proofs.size.size_of.Given as goal
