@@ -1,6 +1,6 @@
 -- The end that a name names.
 use Rattle.std.proofs.Common.{◌≡◌, ℕ, ◌<◌, ◌++◌, List, [], Option, Some, None, map, length, slice_get, refl, ap, sym}
-use Rattle.std.proofs.Common.{◌∙◌, arith}
+use Rattle.std.proofs.Common.{◌∙◌, arith, inl}
 use Rattle.std.specs.Prelude.{option_map}
 use Rattle.std.specs.Global.{Global}
 use Rattle.std.proofs.lemmas.List.{append-nil}
@@ -49,7 +49,7 @@ pub seat-stays : (a : SeatState) → SeatLooked a a
 seat-stays a = (refl, refl, ([], append-nil a.known))
 
 pub way-stays : (w : WayState) → WayLooked w w
-way-stays w = (refl, refl, refl, omega arith, refl, refl)
+way-stays w = (refl, refl, refl, omega arith, refl, refl, refl, inl refl)
 
 pub seats-stay : (seats : List SeatState) → SeatsLooked seats seats
 seats-stay seats = record { count = refl; each = λ k a at. (a, at, seat-stays a) }

@@ -1,4 +1,5 @@
 pub mod Rings
+pub mod Sizes
 pub mod Seats
 pub mod Ends
 pub use Rattle.gate_events.specs.Sources

@@ -6,6 +6,7 @@ use mathlib.Core.List.{IsPrefix}
 use Rattle.gate_law.specs.Events.{LinkOut}
 use Rattle.gate_events.specs.declared.event.Event.{Event}
 use Rattle.gate_events.specs.Sources.{events_from}
+use Rattle.desk_ends.specs.Sizes.{all_more, room_beside}
 use Rattle.desk_ends.specs.Rings.{NamedInlet, NamedOutlet, Done, put_at, took_at}
 
 -- a seat: every event that it gave, and those that it knows to lie in the ring
@@ -15,14 +16,16 @@ pub record SeatState : Type 0 where
   pub known : List Event
 
 -- a way: every list that was sent by it, those of them that were released into the ring, whether lists wait beside the
--- ring until then, for how many more it knows room, and whether it is cut: then a list for its recipient was sent by no
--- way, and none is any more
+-- ring until then, how many lists its ring holds, for how many more it knows room, for how many places more those count
+-- that may lie there, and whether it is cut: then a list for its recipient was sent by no way, and none is any more
 pub record WayState : Type 0 where
   pub name : NamedOutlet
   pub sent : List (List LinkOut)
   pub released : List (List LinkOut)
   pub stages : Bool
+  pub places : ℕ
   pub free : ℕ
+  pub more : ℕ
   pub cut : Bool
 
 abbrev pub seat_name : SeatState → NamedInlet
@@ -39,15 +42,22 @@ SeatLooked a b = (b.name ≡ a.name) × (b.gave ≡ a.gave) × IsPrefix a.known 
 abbrev pub SeatGave : Event → SeatState → SeatState → Type 0
 SeatGave e a b = (b.name ≡ a.name) × (b.gave ≡ a.gave ++ e ∷ []) × (a.known ≡ e ∷ b.known)
 
--- a way that looked may know of more room
+-- for how many lists more of a client's own events it knows room: long ones that lie there take more than a place
+abbrev pub way_room : WayState → ℕ
+way_room w = room_beside w.free w.more
+
+-- A way that looked may know of more room. What its lists count for stays, or is nothing any more: then none lies
+-- there.
 abbrev pub WayLooked : WayState → WayState → Type 0
 WayLooked w v = (v.name ≡ w.name) × (v.sent ≡ w.sent) × (v.cut ≡ w.cut) × (w.free ≤ v.free)
-    × (v.released ≡ w.released) × (v.stages ≡ w.stages)
+    × (v.released ≡ w.released) × (v.stages ≡ w.stages) × (v.places ≡ w.places)
+    × ((v.more ≡ w.more) ⊎ ((v.more ≡ 0) × (v.places ≤ v.free)))
 
 -- a way that may stage from now on
 abbrev pub WayMayStage : WayState → WayState → Type 0
 WayMayStage w v = (v.name ≡ w.name) × (v.sent ≡ w.sent) × (v.cut ≡ w.cut) × (w.free ≤ v.free)
     × (v.released ≡ w.released) × (w.stages ≡ true → v.stages ≡ true)
+    × (v.places ≡ w.places) × (v.more ≡ w.more)
 
 -- a way that stages: what was released is a beginning of what was sent
 abbrev pub IsStaging : WayState → Type 0
@@ -56,22 +66,26 @@ IsStaging w = (w.stages ≡ true) × IsPrefix w.released w.sent
 -- a way of which more may be released
 abbrev pub WayMayRelease : WayState → WayState → Type 0
 WayMayRelease w v = (v.name ≡ w.name) × (v.sent ≡ w.sent) × (v.cut ≡ w.cut) × (w.free ≤ v.free)
-    × (v.stages ≡ w.stages)
+    × (v.stages ≡ w.stages) × (v.places ≡ w.places) × (v.more ≡ w.more)
 
 -- Lists were for a way. It took them, or it is cut and took none; it isn't cut by them where it knew of room, nor where
--- there were none. It knows of room for one list less at the worst. Where it stages none is released.
+-- there were none. It knows of room for one list less at the worst. What it took counts by its length, up to more than
+-- can be counted. Where it stages none is released.
 pub record WaySent (lists : List (List LinkOut)) (w v : WayState) : Type 0 where
   pub name : v.name ≡ w.name
   pub whole : v.cut ≡ false → (w.cut ≡ false) × (v.sent ≡ w.sent ++ lists)
   pub lost : v.cut ≡ true → v.sent ≡ w.sent
   pub stays : ((0 < w.free) ⊎ (lists ≡ [])) → v.cut ≡ w.cut
   pub takes : w.free ≤ v.free + 1
+  pub most : v.more ≤ w.more + all_more lists
+  pub counts : v.cut ≡ false → (v.more ≡ w.more + all_more lists) ⊎ (v.more ≡ 18_446_744_073_709_551_615)
   pub stages : v.stages ≡ w.stages
   pub waits : w.stages ≡ true → v.released ≡ w.released
+  pub places : v.places ≡ w.places
 
 -- a way has room for so many lists, or is cut: then it needs none
 abbrev pub KnowsRoom : ℕ → WayState → Type 0
-KnowsRoom count w = (w.cut ≡ true) ⊎ (count ≤ w.free)
+KnowsRoom count w = (w.cut ≡ true) ⊎ (count ≤ way_room w)
 
 -- each seat looked or stayed as it is
 pub record SeatsLooked (old new : List SeatState) : Type 0 where

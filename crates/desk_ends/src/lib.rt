@@ -12,6 +12,7 @@ mod inlet;
 mod name;
 mod outlet;
 mod seat;
+mod size;
 mod way;
 
 pub use finished::{Finished, FinishedEnd};
@@ -20,4 +21,5 @@ pub use inlet::Inlet;
 pub use name::DeskName;
 pub use outlet::Outlet;
 pub use seat::Seat;
-pub use way::Way;
+pub use size::more_places;
+pub use way::{FOR_MARKETS_AND_TIME, Way};

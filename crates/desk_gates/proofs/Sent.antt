@@ -27,7 +27,10 @@ module _ (K S T : RattleType) (k : DeskName.Ghosts K.Denot) (g : BuildHasher.Gho
     search (shared, sendable) depth 40,
     (
       search (outlet_send, sendable) depth 40,
-      (search sendable depth 40, (search sendable depth 40, (search (sendable, crosses) depth 40, tt))),
+      (
+        search sendable depth 40,
+        (search sendable depth 40, (search sendable depth 40, (search (sendable, crosses) depth 40, tt))),
+      ),
     ),
   )
 

@@ -3,7 +3,7 @@
 ghost use Rattle.desk_gates.specs.Since.{Earlier};
 
 use crate::outlet_pen::OutletEnd;
-use desk::{DeskName, Finished, Outlet, Recipient, Shared};
+use desk::{DeskName, Finished, Outlet, Recipient, Shared, more_places};
 use gate_workers::{Event, Gate, LinkOut, ShortList};
 use std::alloc::{AllocError, Global};
 use std::hash::{BuildHasher, BuildHasherDefault, FoldHasher};
@@ -18,13 +18,16 @@ const HELD: usize = 2_048;
 
 /// The handle of a writer: takes output through an outlet. Once it has taken as many lists in a row as make a client's
 /// messages wait, it owes the desk as many turns, since so many may wait for that room: it makes one at a time, until
-/// one steps nothing. Nothing is put through it.
+/// one steps nothing. So it does once its queue is empty behind a list that counts for more than one place, since these
+/// make a client's messages wait until then. Nothing is put through it.
 #[derive(Drop)]
 pub struct OutletGate<'a, K: DeskName, S: BuildHasher + Drop = BuildHasherDefault<FoldHasher>> {
     shared: &'a Shared<K, S>,
     outlet: Outlet<K>,
     /// The lists that were taken since the queue was empty, or since turns were owed last.
     in_a_row: u32,
+    /// Whether one of those lists counts for more than one place.
+    is_behind_long: bool,
     /// The turns that are owed: they aren't forgotten if the queue is empty.
     owed: u32,
     /// The outlet as it was at first: for contracts alone.
@@ -47,6 +50,7 @@ impl<'a, K: DeskName, S: BuildHasher + Drop> OutletGate<'a, K, S> {
             shared,
             outlet,
             in_a_row: 0,
+            is_behind_long: false,
             owed: 0,
             first,
         }
@@ -60,6 +64,7 @@ impl<'a, K: DeskName, S: BuildHasher + Drop> OutletGate<'a, K, S> {
             shared: _,
             outlet,
             in_a_row: _,
+            is_behind_long: _,
             owed: _,
             first: _,
         } = self;
@@ -85,8 +90,13 @@ impl<'a, K: DeskName, S: BuildHasher + Drop> Gate for OutletGate<'a, K, S> {
     fn take(&mut self) -> Option<ShortList<LinkOut>> {
         let Some(told) = self.outlet.take() else {
             self.in_a_row = 0;
+            if self.is_behind_long {
+                self.is_behind_long = false;
+                self.owed = FULL;
+            }
             return None;
         };
+        self.is_behind_long = self.is_behind_long || more_places(&told) > 0;
         self.in_a_row = self.in_a_row.saturating_add(1);
         if self.in_a_row >= FULL {
             self.in_a_row = 0;

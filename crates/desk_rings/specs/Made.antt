@@ -22,7 +22,7 @@ abbrev pub IsFreshLists : ToldRing → Type 0
 IsFreshLists r = (received r.consumer ≡ []) × (known_items r.consumer ≡ [])
 
 abbrev pub IsFreshWay : WayState → Type 0
-IsFreshWay w = (w.sent ≡ []) × (w.free ≡ 2_112) × (w.cut ≡ false)
+IsFreshWay w = (w.sent ≡ []) × (w.free ≡ 2_112) × (w.cut ≡ false) × (w.places ≡ 2_112) × (w.more ≡ 0)
 
 abbrev pub IsFreshSeat : SeatState → Type 0
 IsFreshSeat a = (a.gave ≡ []) × (a.known ≡ [])

@@ -1,6 +1,6 @@
 -- What becomes of lists whose elements changed.
-use Rattle.std.proofs.Common.{◌≡◌, ℕ, zero, suc, ◌+◌, ◌<◌, List, [], ◌∷◌, ◌++◌, length, map, Some, slice_get, slice_set}
-use Rattle.std.proofs.Common.{get_or, refl, ap, sym, ◌∙◌, subst, arith, inl, inr, append_assoc}
+use Rattle.std.proofs.Common.{◌≡◌, ℕ, zero, suc, ◌+◌, ◌<◌, ◌≤◌, List, [], ◌∷◌, ◌++◌, length, map, Some, slice_get, slice_set}
+use Rattle.std.proofs.Common.{get_or, refl, ap, sym, ◌∙◌, subst, arith, inl, inr, append_assoc, ◌⊎◌}
 use Rattle.std.proofs.lemmas.Bool.Decides.{eqb_tells}
 use Rattle.std.proofs.lemmas.Option.{slice_get-get_or, slice_get_within}
 use Rattle.std.proofs.lemmas.List.{append-nil}
@@ -89,6 +89,16 @@ prefix-more xs ys zs p = (p.0 ++ zs, sym (append_assoc xs p.0 zs) ∙ ap (λ w. 
 pub prefix-trans : {A : Type 0} (xs ys zs : List A) → IsPrefix xs ys → IsPrefix ys zs → IsPrefix xs zs
 prefix-trans xs ys zs p q = (p.0 ++ q.0, sym (append_assoc xs p.0 q.0) ∙ (ap (λ w. w ++ q.0) p.1 ∙ q.1))
 
+-- what lists count for is as it was, or none lies there any more
+abbrev Forgot : WayState → WayState → Type 0
+Forgot w v = (v.more ≡ w.more) ⊎ ((v.more ≡ 0) × (v.places ≤ v.free))
+
+forgot-twice : (x y z : WayState) → z.places ≡ y.places → y.free ≤ z.free → Forgot x y → Forgot y z → Forgot x z
+forgot-twice x y z places free (inl same) (inl is) = inl (is ∙ same)
+forgot-twice x y z places free (inr none) (inl is) = inr (is ∙ none.0, omega (arith, none.1, places, free))
+forgot-twice x y z places free (inl same) (inr is) = inr is
+forgot-twice x y z places free (inr none) (inr is) = inr is
+
 -- looks, one after another
 pub ways-twice : (x y z : List WayState) → WaysLooked x y → WaysLooked y z → WaysLooked x z
 ways-twice x y z p q = record {
@@ -104,6 +114,8 @@ ways-twice x y z p q = record {
       u.2.4 ∙ v.2.4,
       u.2.5
           ∙ v.2.5,
+      u.2.6 ∙ v.2.6,
+      forgot-twice w v.0 u.0 u.2.6 u.2.3 v.2.7 u.2.7,
     ),
   );
 }
@@ -111,7 +123,7 @@ ways-twice x y z p q = record {
 -- ---- ways that stage, and that release
 
 pub way-may-stage : (w : WayState) → WayMayStage w w
-way-may-stage w = (refl, refl, refl, omega arith, refl, λ so. so)
+way-may-stage w = (refl, refl, refl, omega arith, refl, λ so. so, refl, refl)
 
 pub ways-may-stage : (ways : List WayState) → WaysMayStage ways ways
 ways-may-stage ways = record { count = refl; each = λ d w at. (w, at, way-may-stage w) }
@@ -130,12 +142,14 @@ stage-twice x y z p q = record {
       u.2.4
           ∙ v.2.4,
       λ so. u.2.5 (v.2.5 so),
+      u.2.6 ∙ v.2.6,
+      u.2.7 ∙ v.2.7,
     ),
   );
 }
 
 pub way-may-release : (w : WayState) → WayMayRelease w w
-way-may-release w = (refl, refl, refl, omega arith, refl)
+way-may-release w = (refl, refl, refl, omega arith, refl, refl, refl)
 
 pub ways-may-release : (ways : List WayState) → WaysMayRelease ways ways
 ways-may-release ways = record { count = refl; each = λ d w at. (w, at, way-may-release w) }
@@ -143,8 +157,19 @@ ways-may-release ways = record { count = refl; each = λ d w at. (w, at, way-may
 pub release-twice : (x y z : List WayState) → WaysMayRelease x y → WaysMayRelease y z → WaysMayRelease x z
 release-twice x y z p q = record {
   count = q.count ∙ p.count;
-  each = λ d w at. let v = p.each d w at in let u = q.each d v.0 v.1 in
-      (u.0, u.1, (u.2.0 ∙ v.2.0, u.2.1 ∙ v.2.1, u.2.2 ∙ v.2.2, omega (arith, v.2.3, u.2.3), u.2.4 ∙ v.2.4));
+  each = λ d w at. let v = p.each d w at in let u = q.each d v.0 v.1 in (
+    u.0,
+    u.1,
+    (
+      u.2.0 ∙ v.2.0,
+      u.2.1 ∙ v.2.1,
+      u.2.2 ∙ v.2.2,
+      omega (arith, v.2.3, u.2.3),
+      u.2.4 ∙ v.2.4,
+      u.2.5 ∙ v.2.5,
+      u.2.6 ∙ v.2.6,
+    ),
+  );
 }
 
 -- ---- loops over ways

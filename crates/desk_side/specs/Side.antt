@@ -1,7 +1,7 @@
 -- What contracts see of the desk's side of its rings, and what its calls make of it. (Own.)
 use Rattle.std.specs.Prelude.{◌≡◌, ◌≢◌, ℕ, ◌+◌, ◌<◌, ◌≤◌, ◌⊎◌, true, false, Option, Some, slice_get, length, List}
 use Rattle.gate_events.specs.Sources.{unless_empty}
-use Rattle.desk_ends.specs.Seats.{KnowsRoom, SeatState, WayState, WaySent}
+use Rattle.desk_ends.specs.Seats.{KnowsRoom, SeatState, WayState, WaySent, way_room}
 use Rattle.desk_side.specs.declared.said.Said.{Said}
 use Rattle.desk_side.specs.Said.{list_for}
 use Rattle.desk_side.specs.Places.{is_aimed, recipient_at, source_at}
@@ -32,16 +32,17 @@ pub record Tells (said : Said) (old new : List WayState) : Type 0 where
   pub each : (d : ℕ) (w : WayState) → slice_get old d ≡ Some w
       → (v : WayState) × (slice_get new d ≡ Some v) × WaySent (unless_empty (list_for w.name.to said)) w v
 
--- the ways of this client and of this port know of room beside so many places that are kept free, or are cut
+-- The ways of this client and of this port know of room beside so many places that are kept free, or are cut. A long
+-- list that lies there counts for more places.
 abbrev pub HaveRoom : ℕ → Option ℕ → Option ℕ → List WayState → Type 0
 HaveRoom kept_free client port ways = (d : ℕ) (w : WayState) → slice_get ways d ≡ Some w
-    → is_aimed client port w.name.to ≡ true → (w.cut ≡ true) ⊎ (kept_free < w.free)
+    → is_aimed client port w.name.to ≡ true → (w.cut ≡ true) ⊎ (kept_free < way_room w)
 
 -- each way has room for so many lists, or is cut
 abbrev pub AllKnowRoom : ℕ → List WayState → Type 0
 AllKnowRoom count ways = (d : ℕ) (w : WayState) → slice_get ways d ≡ Some w → KnowsRoom count w
 
--- one of them isn't cut and knows of none
+-- one of them isn't cut and knows of no such room
 abbrev pub LacksRoom : ℕ → Option ℕ → Option ℕ → List WayState → Type 0
 LacksRoom kept_free client port ways = (d : ℕ) × (w : WayState) × (slice_get ways d ≡ Some w)
-    × (is_aimed client port w.name.to ≡ true) × (w.cut ≡ false) × (w.free ≤ kept_free)
+    × (is_aimed client port w.name.to ≡ true) × (w.cut ≡ false) × (way_room w ≤ kept_free)

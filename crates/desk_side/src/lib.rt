@@ -9,7 +9,7 @@ mod said;
 mod side;
 mod slots;
 
-pub use desk_ends::{DeskName, Finished};
+pub use desk_ends::{DeskName, FOR_MARKETS_AND_TIME, Finished};
 pub use opening::open_side;
 pub use said::Said;
 pub use side::Side;

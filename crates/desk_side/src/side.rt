@@ -1,13 +1,14 @@
 //! All queues of a desk, from the desk's side.
 
-ghost use Rattle.std.specs.Prelude.{◌≡◌, ◌≢◌, ◌<◌, ◌^◌, ◌==◌, [], Some, None, ℕ, if◌then◌else◌};
+ghost use Rattle.std.specs.Prelude.{◌≡◌, ◌≢◌, ◌<◌, ◌≤◌, ◌-◌, ◌^◌, ◌==◌, [], Some, None, ℕ, if◌then◌else◌};
+ghost use Rattle.desk_ends.specs.Sizes.{more_places as places_more};
 
 use crate::places::{client_number, place_of_client, place_of_port, port_number};
 use crate::said::Said;
 use crate::slots::{
     is_empty_at, is_full_at, least_room, pop_at, release_each, send_at, stage_each,
 };
-use desk_ends::{DeskName, Finished, Seat, Way};
+use desk_ends::{DeskName, Finished, Seat, Way, more_places};
 use gate_events::{Event, Source, Told};
 use std::alloc::AllocError;
 use std::marker::Model;
@@ -181,7 +182,8 @@ impl Side {
         } = said;
         let client = place_of_client(self.clients, client_number(client));
         let port = place_of_port(self.clients, self.ports, port_number(port));
-        self.roomy = self.roomy.saturating_sub(1);
+        let roomy = roomy_behind(self.roomy, &client_told, &port_told);
+        self.roomy = roomy;
         let (prompt, waiting) = prompt_and_waiting(
             bit(client, &client_told),
             bit(port, &port_told),
@@ -248,6 +250,16 @@ impl Side {
     {
         finished.compare(&mut self.seats, &mut self.ways);
     }
+}
+
+/// For how many lists each way has room behind a batch's output, where it had room for so many: for one list less, and
+/// for as many less as the longer list counts for more.
+fn roomy_behind(roomy: usize, client_told: &Told, port_told: &Told) -> usize
+    ensures client { result ≤ roomy - 1 - places_more client_told.now }
+    ensures port { result ≤ roomy - 1 - places_more port_told.now }
+{
+    let more = more_places(client_told).max(more_places(port_told));
+    roomy.saturating_sub(1).saturating_sub(more)
 }
 
 #[tactic(auto, using(crate::proofs::Bits::one_bit))]

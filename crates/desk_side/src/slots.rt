@@ -3,7 +3,7 @@
 ghost use Rattle.std.specs.Prelude.{◌≡◌, ◌<◌, ◌≤◌, ◌⊎◌, ℕ, true, false, Some, None, length, slice_get, IfSome, OnOk};
 ghost use Rattle.gate_events.specs.Sources.{unless_empty};
 ghost use Rattle.desk_ends.specs.Seats.{AllReleased, AllStage, SeatState, SeatGave, SeatLooked, WayState, WaySent};
-ghost use Rattle.desk_ends.specs.Seats.{WaysLooked, WaysMayRelease, WaysMayStage};
+ghost use Rattle.desk_ends.specs.Seats.{WaysLooked, WaysMayRelease, WaysMayStage, way_room};
 ghost use Rattle.desk_side.specs.Side.{AllKnowRoom, ChangesAt};
 
 use desk_ends::{Seat, Way};
@@ -34,9 +34,9 @@ pub(crate) fn is_full_at(ways: &mut Vec<Way>, place: Option<usize>, kept_free: u
     requires inside { IfSome place (λ d. d < length ways.old.items) }
     ensures looked { WaysLooked ways.old.items ways.new.items }
     ensures full { result ≡ true → (d : ℕ) × (w : WayState) × (place ≡ Some d) × (slice_get ways.new.items d ≡ Some w)
-        × (w.cut ≡ false) × (w.free ≤ kept_free) }
+        × (w.cut ≡ false) × (way_room w ≤ kept_free) }
     ensures room { result ≡ false → (d : ℕ) (w : WayState) → place ≡ Some d → slice_get ways.new.items d ≡ Some w
-        → (w.cut ≡ true) ⊎ (kept_free < w.free) }
+        → (w.cut ≡ true) ⊎ (kept_free < way_room w) }
 {
     let Some(place) = place else {
         return false;

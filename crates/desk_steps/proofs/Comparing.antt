@@ -135,7 +135,7 @@ pub seats-same : (x : List SeatState) → SeatsLooked x x
 seats-same x = record { count = refl; each = λ k a at. (a, at, (refl, refl, prefix-same a.known)) }
 
 pub ways-same : (x : List WayState) → WaysLooked x x
-ways-same x = record { count = refl; each = λ d w at. (w, at, (refl, refl, refl, omega arith, refl, refl)) }
+ways-same x = record { count = refl; each = λ d w at. (w, at, (refl, refl, refl, omega arith, refl, refl, refl, inl refl)) }
 
 pub seat-names : (old new : List SeatState) (names : List NamedInlet) → SeatsLooked old new → map seat_name old ≡ names
     → map seat_name new ≡ names

@@ -12,8 +12,9 @@ use Rattle.gate_events.specs.declared.source.Recipient.TheVariants as recipients
 use Rattle.gate_events.specs.Seen.{event_seen}
 use Rattle.gate_events.specs.Sources.{unless_empty}
 use Rattle.gate_journal.specs.Kept.{turns}
-use Rattle.desk_side.specs.desk_ends.Seats.{SeatState, SeatGave, WayState, WaySent}
+use Rattle.desk_side.specs.desk_ends.Seats.{SeatState, SeatGave, WayState, WaySent, way_room}
 use Rattle.desk_side.proofs.desk_ends.Places.{get-same}
+use Rattle.desk_side.proofs.desk_ends.Sizes.{beside-most}
 use Rattle.desk_side.specs.declared.said.Said.{Said}
 use Rattle.desk_side.specs.Said.{IsSaid, list_for}
 use Rattle.desk_side.specs.Places.{is_aimed}
@@ -43,13 +44,13 @@ stays-cut lists w v sent cut false is = absurd (cc (cut, (sent.whole is).0))
 
 way-stays : (kept : ℕ) (said : Said) (client port : Option ℕ) (b : law.Batch) (w v : WayState) → IsSaid b said
     → IsAmong b.client client → IsAmong b.port port
-    → (is_aimed client port w.name.to ≡ true → (w.cut ≡ true) ⊎ (kept < w.free))
+    → (is_aimed client port w.name.to ≡ true → (w.cut ≡ true) ⊎ (kept < way_room w))
     → WaySent (unless_empty (list_for w.name.to said)) w v
     → (aimed : Bool) → is_aimed client port w.name.to ≡ aimed → v.cut ≡ w.cut
 way-stays kept said client port b w v is one two room sent true aim =
     elim (room aim) [
       | inl cut ↦ stays-cut (unless_empty (list_for w.name.to said)) w v sent cut v.cut refl
-      | inr free ↦ sent.stays (inl (omega (arith, free)))
+      | inr free ↦ sent.stays (inl (omega (arith, free, beside-most w.free w.more)))
     ]
 way-stays kept said client port b w v is one two room sent false aim =
     sent.stays (inr (ap unless_empty (not-aimed w.name.to client port b said is one two aim)))
@@ -63,7 +64,7 @@ cuts-nowhere kept k s t x room d w v was now =
     let sent = subst (WaySent lists w) (get-same t.side.ways d r.0 v r.1 now) r.2 in
     elim (room d w was) [
       | inl cut ↦ stays-cut lists w v sent cut v.cut refl
-      | inr free ↦ sent.stays (inl (omega (arith, free)))
+      | inr free ↦ sent.stays (inl (omega (arith, free, beside-most w.free w.more)))
     ]
 
 first-is : (a b : SeatState) (e f : Event) → SeatGave e a b → slice_get a.known 0 ≡ Some f → e ≡ f

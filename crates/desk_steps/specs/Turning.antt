@@ -54,7 +54,8 @@ pub record Drops (k : ℕ) (s t : DeskState) : Type 0 where
   pub counts : SameCounts s.side t.side
 
 -- The first event of an inlet's ring, of the inlet's source, waits: in the ring of somebody to whom its batch may tell
--- something are no more places than it leaves free.
+-- something are no more places than it leaves free (`way_room`: of those that only clients' events use, a long list
+-- takes more than one).
 pub record Waits (k : ℕ) (s : DeskState) : Type 0 where
   pub event : Event
   pub seat : SeatState
@@ -66,7 +67,7 @@ pub record Waits (k : ℕ) (s : DeskState) : Type 0 where
       (port_for s.recorded.settings (event_seen event)) s.side.ways
 
 -- The first event of an inlet's ring has room: in the ring of each to whom its batch may tell something are more places
--- than it leaves free, or its way is cut.
+-- than it leaves free (`way_room`), or its way is cut.
 pub record HasRoom (k : ℕ) (s : DeskState) : Type 0 where
   pub event : Event
   pub seat : SeatState

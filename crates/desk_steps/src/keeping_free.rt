@@ -4,13 +4,10 @@ ghost use Rattle.std.specs.Prelude.{◌≡◌};
 ghost use Rattle.gate_events.specs.Seen.{event_seen};
 ghost use Rattle.desk_steps.specs.KeptFree.{kept_free};
 
+use desk_side::FOR_MARKETS_AND_TIME;
 use gate_events::Event;
 
-/// Of the 2,112 places of an outlet's ring, those that what a client says may not use: 1,024 for what markets say, and
-/// those for time.
-const FOR_MARKETS_AND_TIME: usize = 1_088;
-
-/// Those for time alone.
+/// Of the places of an outlet's ring, those for time alone.
 const FOR_TIME: usize = 64;
 
 /// How many places of its recipients' rings an event leaves free.

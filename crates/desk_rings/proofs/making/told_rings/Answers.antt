@@ -20,5 +20,8 @@ loop-to-preserved c =
       c.new-in-loop-to.ensures.lists.1
           ∙ c.in_ok-producer.ensures.producer.1,
       c.new-in-loop-to.ensures.whole,
+      c.new-in-loop-to.ensures.places.0
+          ∙ c.in_ok-producer.ensures.producer.2,
+      c.new-in-loop-to.ensures.places.1,
     )
     (c.in_ok-producer.ensures.consumer.0, c.in_ok-producer.ensures.consumer.1))

@@ -1,6 +1,6 @@
 use Rattle.std.proofs.Common.{◌≡◌, ◌++◌, ◌-◌}
 use Rattle.std.specs.VecDeque.{deque_len}
-use Rattle.rtrb.specs.Ring.{known_free, sent}
+use Rattle.rtrb.specs.Ring.{known_free, producer_capacity, sent}
 use Rattle.desk_ends.specs.Rings.{producer_ring}
 use Rattle.desk_ends.proofs.way.Way.release.Given as goal
 
@@ -15,6 +15,8 @@ invariant-loop-told l = record {
       ≡ known_free l.initial.self-inside.producer - deque_len l.initial.self-inside.staged;
   cut : l.self-inside.cut ≡ l.initial.self-inside.cut;
   stages : l.self-inside.stages ≡ l.initial.self-inside.stages;
+  places : producer_capacity l.self-inside.producer ≡ producer_capacity l.initial.self-inside.producer;
+  more : l.self-inside.more ≡ l.initial.self-inside.more;
 }
 
 abbrev pub decreases-loop-told : goal.decreases-loop-told

@@ -1,6 +1,6 @@
-use Rattle.std.proofs.Common.{◌≡◌, ◌∙◌, ℕ, ap, subst, sym}
+use Rattle.std.proofs.Common.{◌≡◌, ◌∙◌, ap, subst}
 use Rattle.desk_side.specs.Places.{client_place, port_place}
-use Rattle.desk_side.specs.Side.{AllKnowRoom, SideState, Tells}
+use Rattle.desk_side.specs.Side.{SideState, Tells}
 use Rattle.desk_side.proofs.Arranging.{ways-arranged}
 use Rattle.desk_side.proofs.Roomy.{told-room}
 use Rattle.desk_side.proofs.Telling.{tells}
@@ -21,9 +21,9 @@ invariant_of-self c =
       ways-arranged c.self.inside.clients c.self.inside.ports c.self.inside.seats.items c.self.inside.ways.items
           c.send_at-2.new.ways.items c.self.invariant.0
           told.count (λ d w at. let r = told.each d w at in (r.0, r.1, r.2.name)),
-      subst (λ (n : ℕ). AllKnowRoom n c.send_at-2.new.ways.items) (sym c.saturating_sub-self-inside.ensures)
-          (told-room c.self.inside.roomy c.args.said c.self.inside.ways.items c.send_at-2.new.ways.items told
-          c.self.invariant.1),
+      told-room c.roomy_behind-roomy.result c.self.inside.roomy c.args.said c.self.inside.ways.items
+          c.send_at-2.new.ways.items told
+          c.roomy_behind-roomy.ensures.client c.roomy_behind-roomy.ensures.port c.self.invariant.1,
     )
 
 pub returns-clause-ways : goal.returns-clause-ways
