@@ -1,7 +1,7 @@
 -- The events and batches that are read from a history have its turns.
 use Rattle.std.proofs.Common.{◌≡◌, List, [], ◌∷◌, length, refl, ap, sym, ◌∙◌}
 use Rattle.std.proofs.lemmas.List.{length-map}
-use Rattle.std.specs.Prelude.{map, Result, Ok, Err, IfOk}
+use Rattle.std.specs.Prelude.{map, Result, Ok, Err, IfOk, OnOk}
 use Rattle.gate_law.specs.Events as law
 use Rattle.gate_events.specs.declared.event.Event.{Event}
 use Rattle.gate_events.specs.declared.batch.Batch.{Batch}
@@ -31,3 +31,11 @@ same-count events batches h bs count =
 pub if-ok : {T E P : Type 0} (r : Result T E) → P → IfOk r (λ x. P)
 if-ok (Ok x) is = is
 if-ok (Err e) is = tt
+
+pub on-ok : {T E P : Type 0} (r : Result T E) → P → OnOk r P
+on-ok (Ok x) is = is
+on-ok (Err e) is = tt
+
+pub on-ok-both : {T E P Q R : Type 0} (r : Result T E) → (P → Q → R) → OnOk r P → OnOk r Q → OnOk r R
+on-ok-both (Ok x) f p q = f p q
+on-ok-both (Err e) f p q = tt

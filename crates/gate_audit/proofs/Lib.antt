@@ -19,3 +19,6 @@ mod Held
 mod Shelved
 mod Playing
 mod Resting
+mod Passing
+mod Rereading
+mod Clients

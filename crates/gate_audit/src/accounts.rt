@@ -1,15 +1,18 @@
 //! What clients have read of their orders.
 
-ghost use Rattle.std.specs.Prelude.{◌≡◌, ◌++◌, List, IfOk, OnOk, IsErrOf, length, map, reverse};
+ghost use Rattle.std.specs.Prelude.{◌≡◌, ◌++◌, [], List, IfOk, OnOk, IsErrOf, length, map, reverse};
 ghost use Rattle.order_law.specs.Headline.{Each};
 ghost use Rattle.order_accounts.specs.Held.{StaysHeld};
 ghost use Rattle.gate_law.specs.Holds.{Holds};
 ghost use Rattle.gate_events.specs.declared.event.Event.{Event};
 ghost use Rattle.gate_core.specs.Core as core;
 ghost use Rattle.gate_journal.specs.Kept.{turns};
+ghost use Rattle.gate_audit.specs.Passes.{AreRead, StayRead, told_whole};
 ghost use Rattle.gate_audit.specs.Read as read;
+ghost use Rattle.gate_audit.specs.Read.{ReadOrder};
 
 use crate::order_reading::OrderReading;
+use crate::order_readings::OrderReadings;
 use crate::reports::{opens_order, reports_of, text};
 use gate_core::{Batch, ClientNumber, Settings};
 use gate_journal::History;
@@ -111,4 +114,27 @@ fn read_order(
         id: Text::copied(alloc, text(report, 11))?,
         reading: reading_of(alloc, order, reports)?,
     })
+}
+
+/// What was read of these orders once each batch of a history was heard.
+///
+/// `TooLarge` just where, after one of its client's reports, what was read of an order has a number that is larger than
+/// its integer holds; or else `NoMemory`.
+pub(crate) fn read_all(
+    alloc: Global,
+    history: &History,
+    orders: Vec<OrderReading>,
+) -> Result<Vec<OrderReading>, ReadingFault>
+    ensures read { IfOk result (λ now. (os : List ReadOrder) → AreRead os [] orders.items
+        → AreRead os (told_whole (turns history.now)) now.items) }
+    ensures large { IsErrOf result ReadingFault.TooLarge → (os : List ReadOrder) → AreRead os [] orders.items
+        → StayRead (told_whole (turns history.now)) os → ⊥ }
+{
+    let mut readings = OrderReadings::of(alloc, orders)?;
+    let mut ahead = history.turns();
+    while let Some((_, batch, behind)) = ahead.split_first(alloc)? {
+        readings.take(alloc, &batch)?;
+        ahead = behind;
+    }
+    Ok(readings.into_orders())
 }

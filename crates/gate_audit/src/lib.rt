@@ -8,11 +8,13 @@
 #![tactic(auto)]
 
 mod accounts;
+mod lives;
 mod messages;
 mod opening;
 mod openings;
 mod order_pair;
 mod order_reading;
+mod order_readings;
 mod pairs;
 mod played;
 mod port_again;
