@@ -22,3 +22,4 @@ mod Resting
 mod Passing
 mod Rereading
 mod Clients
+mod Owning

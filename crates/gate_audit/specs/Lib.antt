@@ -4,6 +4,7 @@ pub mod Called
 pub mod Pairs
 pub mod Counted
 pub mod Passes
+pub mod Accepted
 pub mod Played
 pub use Rattle.gate_law.specs.fix_fields.Field
 pub use Rattle.gate_events.specs.Seen

@@ -7,6 +7,7 @@
 //! Source: FIX 4.4 Volume 4, "Execution Report"; SoupBinTCP 3.00, "Sequenced Data Packet".
 #![tactic(auto)]
 
+mod accepted;
 mod accounts;
 mod lives;
 mod messages;
