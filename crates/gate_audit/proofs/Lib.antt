@@ -23,3 +23,4 @@ mod Passing
 mod Rereading
 mod Clients
 mod Owning
+mod Ports

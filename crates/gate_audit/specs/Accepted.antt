@@ -12,7 +12,8 @@ accepted_by x = record { client = x.client; order = text 37 x.report; id = text 
 -- those that these reports, the newest first, opened
 abbrev pub accepted_in : List SaidToClient → List ReadOrder
 accepted_in [] = []
-accepted_in (x ∷ earlier) = if opens_new_order x.report then accepted_by x ∷ accepted_in earlier else accepted_in earlier
+accepted_in (x ∷ earlier) = if opens_new_order x.report then accepted_by x ∷ accepted_in earlier
+    else accepted_in earlier
 
 abbrev pub own_of : ℕ → List ReadOrder → List ReadOrder
 own_of client os = filter (λ (o : ReadOrder). o.client == client) os

@@ -2,14 +2,12 @@
 use Rattle.std.specs.Prelude.{◌≡◌, ◌==◌, ℕ, List, [], ◌∷◌, ◌++◌, map, reverse, if◌then◌else◌}
 use Rattle.gate_law.specs.fix_fields.Field.{Message}
 use Rattle.gate_law.specs.Events.{Batch, History}
-use Rattle.gate_law.specs.Settings.{Settings, port_terms}
 use Rattle.order_law.specs.declared.account.Account.{Account}
 use Rattle.order_law.specs.Headline.{Each}
 use Rattle.order_law.specs.Life.{account_of, life}
 use Rattle.order_law.specs.Reading.{account_read, reading, unread}
 use Rattle.order_accounts.specs.Held.{IsHeld, StaysHeld, heard_on}
 use Rattle.order_accounts.specs.ouch_codec.declared.outbound.Outbound.{Outbound}
-use Rattle.gate_audit.specs.Again.{called_again}
 use Rattle.gate_audit.specs.Pairs.{OpenedOrder, Pair, SaidToClient, paired, told_anyone}
 use Rattle.gate_audit.specs.Read.{ReadOrder}
 
@@ -73,12 +71,6 @@ changed_at f (k ∷ ks) xs = changed_at f ks (changed f k xs)
 -- what a port's messages, the newest first, say of an order
 abbrev pub said_of : List Outbound → OpenedOrder → Account
 said_of handled o = account_of (life o.root o.side handled)
-
--- the messages of each port from 1 to this number that were handled, the oldest first
-abbrev pub handled_to : Settings → History → ℕ → List (List Outbound)
-handled_to s h ℕ.zero = []
-handled_to s h (ℕ.suc n) =
-    handled_to s h n ++ reverse (called_again (port_terms s (ℕ.suc n)) (ℕ.suc n) h).handled ∷ []
 
 -- readings, each with its order's other account
 abbrev pub pairs_with : List ReadOrder → List Account → List Pair

@@ -9,6 +9,7 @@
 
 mod accepted;
 mod accounts;
+mod first_pass;
 mod lives;
 mod messages;
 mod opening;

@@ -1,17 +1,17 @@
 //! What the market said of the orders that were accepted.
 
 ghost use Rattle.std.specs.Prelude.{◌≡◌, ◌≤◌, ◌++◌, IfOk, length, map, reverse};
-ghost use Rattle.gate_journal.specs.Kept.{turns};
+ghost use Rattle.gate_law.specs.Events.{History};
 ghost use Rattle.gate_audit.specs.Pairs as read;
 ghost use Rattle.gate_audit.specs.Pairs.{handled_for};
 ghost use Rattle.gate_audit.specs.Read.{for_clients};
-ghost use Rattle.gate_audit.specs.Passes.{handled_to, said_of};
+ghost use Rattle.gate_audit.specs.Called.{AreHandled, heard_on};
+ghost use Rattle.gate_audit.specs.Passes.{said_of};
 
-use crate::messages::handled_messages;
+use crate::messages::HandledSoFar;
 use crate::opening::Opening;
 use crate::openings::Openings;
-use gate_core::{PortNumber, Settings};
-use gate_journal::History;
+use gate_core::Settings;
 use order_law::Account;
 use order_shelves::MessageShelves;
 use std::alloc::{AllocError, Global};
@@ -25,15 +25,17 @@ const MOST_SHELVES: u64 = 1 << 32;
 /// Source: OUCH 4.2, "Outbound Messages".
 pub fn lives_of(
     alloc: Global,
-    history: &History,
     settings: &Settings,
     openings: &Openings,
+    ports: Vec<HandledSoFar>,
 ) -> Result<Vec<Account>, AllocError>
-    ensures { IfOk result (λ said. said.items ≡ for_clients (λ c.
-        map (said_of (handled_for settings.now (turns history.now) c)) (read.orders_of c openings.now.orders.items))
+    requires { length ports.items ≡ length settings.now.ports }
+    ensures { IfOk result (λ said. (h : History) → AreHandled settings.now h 0 ports.items
+        → said.items ≡ for_clients (λ c.
+        map (said_of (handled_for settings.now h c)) (read.orders_of c openings.now.orders.items))
         (length settings.now.clients)) }
 {
-    let handled = handled_of(alloc, history, settings, openings.given)?;
+    let handled = shelved_messages(alloc, ports, openings.given)?;
     let mut said = Vec::with_capacity(alloc, openings.orders.len())?;
     for place in 0..settings.clients().len() {
         let client = (place + 1) as u16;
@@ -44,21 +46,18 @@ pub fn lives_of(
     Ok(said)
 }
 
-/// The messages of each port that were handled, on shelves for so many tokens.
-fn handled_of(
+/// The messages of each port, on shelves for so many tokens.
+fn shelved_messages(
     alloc: Global,
-    history: &History,
-    settings: &Settings,
+    ports: Vec<HandledSoFar>,
     tokens: u64,
 ) -> Result<Vec<MessageShelves>, AllocError>
-    ensures { IfOk result (λ handled. handled.items
-        ≡ handled_to settings.now (turns history.now) (length settings.now.ports)) }
+    ensures { IfOk result (λ handled. handled.items ≡ map heard_on ports.items) }
 {
     let shelves = tokens.min(MOST_SHELVES) as usize + 1;
     let mut handled = Vec::new(alloc);
-    for place in 0..settings.ports().len() {
-        let heard = handled_messages(alloc, history, settings, PortNumber::at_place(place))?;
-        handled.push(MessageShelves::of(alloc, heard, shelves)?)?;
+    for port in ports {
+        handled.push(MessageShelves::of(alloc, port.into_handled(), shelves)?)?;
     }
     Ok(handled)
 }

@@ -11,7 +11,7 @@ ghost use Rattle.gate_core.specs.soup_session.Table.{LoginTerms};
 ghost use Rattle.gate_events.specs.Seen.{batch_seen};
 ghost use Rattle.gate_journal.specs.Kept.{kept_turn, turns};
 ghost use Rattle.gate_audit.specs.Again.{called_again};
-ghost use Rattle.gate_audit.specs.Called.{HasRoom, IsHandled};
+ghost use Rattle.gate_audit.specs.Called.{HasRoom, IsHandled, heard_on};
 
 use crate::port_again::PortAgain;
 use gate_core::{Batch, Event, PortNumber, PortSettings, Settings};
@@ -51,9 +51,9 @@ pub fn handled_messages(
     Ok(so_far.again.handled)
 }
 
-/// What a port's session delivered in the turns so far.
+/// What a port's session delivered in the turns so far, when it is called once more with them.
 #[derive(Drop)]
-struct HandledSoFar {
+pub struct HandledSoFar {
     port: PortNumber,
     again: PortAgain,
     /// How many turns were stepped.
@@ -62,7 +62,7 @@ struct HandledSoFar {
 
 impl HandledSoFar {
     /// Before any turn of the port of this number.
-    fn new(alloc: Global, settings: &PortSettings, port: PortNumber) -> HandledSoFar
+    pub fn new(alloc: Global, settings: &PortSettings, port: PortNumber) -> HandledSoFar
         requires { CanLogIn settings.now }
         ensures handled { IsHandled settings.now port [] result }
         ensures room { HasRoom result }
@@ -75,7 +75,7 @@ impl HandledSoFar {
     }
 
     /// One turn more.
-    fn take(&mut self, alloc: Global, event: &Event, batch: &Batch) -> Result<(), AllocError>
+    pub fn take(&mut self, alloc: Global, event: &Event, batch: &Batch) -> Result<(), AllocError>
         requires { HasRoom self.old }
         ensures room { IfOk result (λ u. HasRoom self.new) }
         ensures handled { IfOk result (λ u. (terms : LoginTerms) (p : ℕ) (h : law.History)
@@ -87,5 +87,12 @@ impl HandledSoFar {
             self.stepped += 1;
         }
         Ok(())
+    }
+
+    /// What the session delivered, the oldest first.
+    pub fn into_handled(self) -> Vec<Outbound>
+        ensures { result.items ≡ heard_on self }
+    {
+        self.again.handled
     }
 }

@@ -30,7 +30,7 @@ pub struct Openings {
 
 impl Openings {
     /// Before any report.
-    fn new(alloc: Global) -> Openings
+    pub fn new(alloc: Global) -> Openings
         ensures { IsOf [] result }
     {
         Openings {

@@ -9,9 +9,9 @@ ghost use Rattle.gate_audit.specs.Passes.{pairs_with, unread_order};
 ghost use Rattle.gate_audit.specs.Read.{accepted_new_orders, for_clients};
 
 use crate::accounts::read_all;
+use crate::first_pass::{FirstPass, first_pass};
 use crate::lives::lives_of;
 use crate::opening::Opening;
-use crate::openings::openings_of;
 use crate::order_pair::OrderPair;
 use crate::order_reading::OrderReading;
 use gate_core::Settings;
@@ -29,8 +29,8 @@ use std::alloc::{AllocError, Global};
 /// after one of its client's reports, what was read of an order has a number that is larger than its integer holds,
 /// or more tokens were given than there are; or else `NoMemory`.
 ///
-/// The history is gone through once for the orders, once for each port and once for what was read: never more than one
-/// turn of it is in memory. What is read of an order is found by its OrderID, and the messages on it by its first token
+/// The history is gone through twice: for the orders and the messages of all ports, and for what was read. Never more
+/// than one turn of it is in memory. An order is found by its OrderID, and the messages on it by its first token
 /// (`order_shelves`).
 ///
 /// Source: FIX 4.4 Volume 4, "Execution Report"; OUCH 4.2, "Outbound Messages".
@@ -48,8 +48,8 @@ pub fn audit(
         → read.HasTokenNumbers (read.said_to_clients (turns history.now)) → ⊥ }
     ensures ascending { IfOk result (λ list. read.AreByOrder (accepted_new_orders settings.now (turns history.now))) }
 {
-    let openings = openings_of(alloc, history)?;
-    let said = lives_of(alloc, history, settings, &openings)?;
+    let FirstPass { openings, ports } = first_pass(alloc, history, settings)?;
+    let said = lives_of(alloc, settings, &openings, ports)?;
     let clients = settings.clients().len();
     let orders = unread_orders(alloc, clients, openings.orders.as_slice())?;
     let read = read_all(alloc, history, orders)?;

@@ -24,13 +24,14 @@ pub paired-requires : goal.paired-requires
 paired-requires c =
     let s : Settings = c.args.settings.now in
     let h : History = turns c.args.history.now in
-    let openings = c.in_ok-openings.openings.orders.items in
+    let openings = c.in_ok-openings.field-0.openings.orders.items in
     let orders : c.in_ok-orders.orders.items ≡ orders_opened s h =
     orders-are s h c.as_slice.result.now (length c.clients-clients.result.now) c.in_ok-orders.orders.items
-    (c.as_slice.ensures.value ∙ c.in_ok-openings.ensures.opened.orders)
+    (c.as_slice.ensures.value ∙ c.in_ok-openings.ensures.heard.openings.orders)
     (ap (λ (xs : List ClientSettings). length xs) c.clients-clients.ensures.clients) c.in_ok-orders.ensures in
     let said : c.in_ok-said.said.items ≡ said_opened s h =
-    said-are s h openings c.in_ok-said.said.items c.in_ok-openings.ensures.opened.orders c.in_ok-said.ensures in
+    said-are s h openings c.in_ok-said.said.items c.in_ok-openings.ensures.heard.openings.orders
+    (c.in_ok-said.ensures h c.in_ok-openings.ensures.heard.ports) in
     let now : AreRead (orders_opened s h) (told_whole h) c.in_ok-read.read.items =
     c.in_ok-read.ensures.read (orders_opened s h) (opened-unread s h c.in_ok-orders.orders.items orders) in
     ap (λ (xs : List ReadOrder). length xs) c.as_slice-2.ensures.value
@@ -41,13 +42,14 @@ pub returns-clause-read : goal.returns-clause-read
 returns-clause-read c =
     let s : Settings = c.args.settings.now in
     let h : History = turns c.args.history.now in
-    let openings = c.in_ok-openings.openings.orders.items in
+    let openings = c.in_ok-openings.field-0.openings.orders.items in
     let orders : c.in_ok-orders.orders.items ≡ orders_opened s h =
     orders-are s h c.as_slice.result.now (length c.clients-clients.result.now) c.in_ok-orders.orders.items
-    (c.as_slice.ensures.value ∙ c.in_ok-openings.ensures.opened.orders)
+    (c.as_slice.ensures.value ∙ c.in_ok-openings.ensures.heard.openings.orders)
     (ap (λ (xs : List ClientSettings). length xs) c.clients-clients.ensures.clients) c.in_ok-orders.ensures in
     let said : c.in_ok-said.said.items ≡ said_opened s h =
-    said-are s h openings c.in_ok-said.said.items c.in_ok-openings.ensures.opened.orders c.in_ok-said.ensures in
+    said-are s h openings c.in_ok-said.said.items c.in_ok-openings.ensures.heard.openings.orders
+    (c.in_ok-said.ensures h c.in_ok-openings.ensures.heard.ports) in
     let now : AreRead (orders_opened s h) (told_whole h) c.in_ok-read.read.items =
     c.in_ok-read.ensures.read (orders_opened s h) (opened-unread s h c.in_ok-orders.orders.items orders) in
     let made : pairs_with c.as_slice-2.result.now c.as_slice-3.result.now ≡ read.pairs s h =
@@ -61,13 +63,14 @@ pub returns-clause-run : goal.returns-clause-run
 returns-clause-run c =
     let s : Settings = c.args.settings.now in
     let h : History = turns c.args.history.now in
-    let openings = c.in_ok-openings.openings.orders.items in
+    let openings = c.in_ok-openings.field-0.openings.orders.items in
     let orders : c.in_ok-orders.orders.items ≡ orders_opened s h =
     orders-are s h c.as_slice.result.now (length c.clients-clients.result.now) c.in_ok-orders.orders.items
-    (c.as_slice.ensures.value ∙ c.in_ok-openings.ensures.opened.orders)
+    (c.as_slice.ensures.value ∙ c.in_ok-openings.ensures.heard.openings.orders)
     (ap (λ (xs : List ClientSettings). length xs) c.clients-clients.ensures.clients) c.in_ok-orders.ensures in
     let said : c.in_ok-said.said.items ≡ said_opened s h =
-    said-are s h openings c.in_ok-said.said.items c.in_ok-openings.ensures.opened.orders c.in_ok-said.ensures in
+    said-are s h openings c.in_ok-said.said.items c.in_ok-openings.ensures.heard.openings.orders
+    (c.in_ok-said.ensures h c.in_ok-openings.ensures.heard.ports) in
     let now : AreRead (orders_opened s h) (told_whole h) c.in_ok-read.read.items =
     c.in_ok-read.ensures.read (orders_opened s h) (opened-unread s h c.in_ok-orders.orders.items orders) in
     let made : pairs_with c.as_slice-2.result.now c.as_slice-3.result.now ≡ read.pairs s h =
@@ -85,17 +88,18 @@ pub returns-clause-held : goal.returns-clause-held
 returns-clause-held c =
     let s : Settings = c.args.settings.now in
     let h : History = turns c.args.history.now in
-    let openings = c.in_ok-openings.openings.orders.items in
+    let openings = c.in_ok-openings.field-0.openings.orders.items in
     let orders : c.in_ok-orders.orders.items ≡ orders_opened s h =
     orders-are s h c.as_slice.result.now (length c.clients-clients.result.now) c.in_ok-orders.orders.items
-    (c.as_slice.ensures.value ∙ c.in_ok-openings.ensures.opened.orders)
+    (c.as_slice.ensures.value ∙ c.in_ok-openings.ensures.heard.openings.orders)
     (ap (λ (xs : List ClientSettings). length xs) c.clients-clients.ensures.clients) c.in_ok-orders.ensures in
     let said : c.in_ok-said.said.items ≡ said_opened s h =
-    said-are s h openings c.in_ok-said.said.items c.in_ok-openings.ensures.opened.orders c.in_ok-said.ensures in
+    said-are s h openings c.in_ok-said.said.items c.in_ok-openings.ensures.heard.openings.orders
+    (c.in_ok-said.ensures h c.in_ok-openings.ensures.heard.ports) in
     let now : AreRead (orders_opened s h) (told_whole h) c.in_ok-read.read.items =
     c.in_ok-read.ensures.read (orders_opened s h) (opened-unread s h c.in_ok-orders.orders.items orders) in
     on-ok c.paired.result
-    (all-held s h now.held, omega (arith, c.in_ok-openings.ensures.opened.few, same-tokens h))
+    (all-held s h now.held, omega (arith, c.in_ok-openings.ensures.heard.openings.few, same-tokens h))
 
 pub returns-clause-ascending : goal.returns-clause-ascending
 returns-clause-ascending c = if-ok c.paired.result (orders-ascend c.args.settings.now (turns c.args.history.now))
@@ -110,10 +114,10 @@ pub returns-in_err-read-clause-large : goal.returns-in_err-read-clause-large
 returns-in_err-read-clause-large c err held tokens =
     let s : Settings = c.args.settings.now in
     let h : History = turns c.args.history.now in
-    let openings = c.in_ok-openings.openings.orders.items in
+    let openings = c.in_ok-openings.field-0.openings.orders.items in
     let orders : c.in_ok-orders.orders.items ≡ orders_opened s h =
     orders-are s h c.as_slice.result.now (length c.clients-clients.result.now) c.in_ok-orders.orders.items
-    (c.as_slice.ensures.value ∙ c.in_ok-openings.ensures.opened.orders)
+    (c.as_slice.ensures.value ∙ c.in_ok-openings.ensures.heard.openings.orders)
     (ap (λ (xs : List ClientSettings). length xs) c.clients-clients.ensures.clients) c.in_ok-orders.ensures in
     let own_error : IsErrOf {E = ReadingFault} (Err c.in_err-read.field-0.0) TooLarge =
     search (rules, c.from_residual-in_err-read.ensures, err) in
