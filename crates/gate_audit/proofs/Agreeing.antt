@@ -15,7 +15,7 @@ use Rattle.gate_audit.specs.Read.{opened_as, read_by, read_in, readings}
 use Rattle.gate_audit.proofs.Lists.{map-map, map-reverse}
 use Rattle.gate_audit.proofs.OwnOrders.{opened-same}
 
-for-same : {X : Type 0} (f g : ℕ → List X) → ((c : ℕ) → f c ≡ g c) → (n : ℕ) → for_clients f n ≡ for_clients g n
+pub for-same : {X : Type 0} (f g : ℕ → List X) → ((c : ℕ) → f c ≡ g c) → (n : ℕ) → for_clients f n ≡ for_clients g n
 for-same f g same ℕ.zero = refl
 for-same f g same (suc n) = rw (for-same f g same n, same (suc n)) refl
 

@@ -19,3 +19,8 @@ mod Held
 mod Shelved
 mod Playing
 mod Resting
+mod Passing
+mod Rereading
+mod Clients
+mod Owning
+mod Ports

@@ -1,6 +1,6 @@
 -- Each order of the audit beside what its market's book has of it.
-use Rattle.std.proofs.Common.{◌≡◌, ◌<◌, ◌≤◌, ◌+◌, ℕ, suc, Bool, true, false, List, [], ◌∷◌, ◌++◌, map, reverse, length}
-use Rattle.std.proofs.Common.{refl, sym, ap, subst, ◌∙◌, arith, eqb-true}
+use Rattle.std.proofs.Common.{◌≡◌, ℕ, suc, Bool, true, false, List, [], ◌∷◌, ◌++◌, map, reverse, length}
+use Rattle.std.proofs.Common.{refl, sym, ap, subst, ◌∙◌, eqb-true}
 use Rattle.std.specs.Prelude.{◌==◌, filter}
 use Rattle.std.proofs.lemmas.List.{reverse-append}
 use Rattle.market_law.specs.declared.row.BookRow.{BookRow}
@@ -15,7 +15,6 @@ use Rattle.world_law.specs.Rows.{ReadsAsBook}
 use Rattle.world_links.specs.World.{World}
 use Rattle.world_links.specs.Promises.{IsAtRest, RestsAlike, turns_of}
 use Rattle.gate_audit.specs.Pairs.{OpenedOrder, Pair, accepted_pair, accepted_pairs, accepted_pairs_of}
-use Rattle.gate_audit.specs.Pairs.{opened_orders, orders_of, said_to_clients}
 use Rattle.gate_audit.specs.Played.{AgreesWithBook, IsAsBook, book_of, books, books_of}
 use Rattle.gate_audit.specs.Read.{accepted_new_orders, for_clients}
 use Rattle.gate_audit.proofs.FirstTokens.{started}

@@ -1,46 +1,12 @@
--- Reports on shelves, and some more.
-use Rattle.std.proofs.Common.{◌≡◌, ◌<◌, ◌+◌, ℕ, Bool, true, false, List, [], ◌∷◌, ◌++◌, length, map, take, get_or}
-use Rattle.std.proofs.Common.{refl, sym, ap, subst, ◌∙◌, append_assoc}
+-- What is made of the elements of lists that pass a test, and what holds of each.
+use Rattle.std.proofs.Common.{◌≡◌, ◌<◌, ◌≤◌, ◌+◌, ℕ, Bool, true, false, List, [], ◌∷◌, ◌++◌, length, map, take, get_or}
+use Rattle.std.proofs.Common.{refl, sym, ap, subst, ◌∙◌, append_assoc, arith}
 use Rattle.std.specs.Prelude.{filter}
 use Rattle.std.proofs.lemmas.List.{append-nil, map-append, take_more}
 use Rattle.std.proofs.lemmas.List.Elements.{filter-append}
-use Rattle.std.proofs.lemmas.Grind.{flat_map-append}
-use Rattle.gate_law.specs.fix_fields.Field.{Message}
-use Rattle.gate_law.specs.Events.{is_the_number}
-use Rattle.gate_events.specs.declared.batch.Batch.{Batch}
 use Rattle.order_law.specs.Headline.{Each}
-use Rattle.order_shelves.specs.Shelved.{HasReports}
-use Rattle.gate_audit.specs.Read.{reports_to, told_by_batch}
-
-pub one-more : (sent rs : List Message) (i : ℕ) (r : Message) (shelves : List (List Message)) → i < length rs
-    → r ≡ get_or rs i r → HasReports (sent ++ take i rs ++ r ∷ []) shelves
-    → HasReports (sent ++ take (i + 1) rs) shelves
-one-more sent rs i r shelves inside is has =
-    subst (λ (xs : List Message). HasReports xs shelves)
-    (append_assoc sent (take i rs) (r ∷ []) ∙ ap (λ (ys : List Message). sent ++ ys)
-    (sym (take_more rs i r inside ∙ ap (λ (y : Message). take i rs ++ y ∷ []) (sym is)))) has
-
-pub batch-more : (client : ℕ) (bs : List Batch) (i : ℕ) (b : Batch) (shelves : List (List Message)) → i < length bs
-    → b ≡ get_or bs i b → HasReports (reports_to client (take i bs) ++ told_by_batch client b) shelves
-    → HasReports (reports_to client (take (i + 1) bs)) shelves
-batch-more client bs i b shelves inside is has =
-    let first : take (i + 1) bs ≡ take i bs ++ b ∷ [] = take_more bs i b inside
-    ∙ ap (λ (y : Batch). take i bs ++ y ∷ []) (sym is) in
-    subst (λ (xs : List Message). HasReports xs shelves)
-    (sym (ap (reports_to client) first ∙ (flat_map-append (told_by_batch client) (take i bs) (b ∷ [])
-    ∙ ap (λ (ys : List Message). reports_to client (take i bs) ++ ys) (append-nil (told_by_batch client b))))) has
-
--- a batch that names the client, and one that doesn't
-pub named : (client : ℕ) (b : Batch) (sent : List Message) (shelves : List (List Message))
-    → is_the_number client b.client ≡ true → HasReports (sent ++ b.reports.items) shelves
-    → HasReports (sent ++ told_by_batch client b) shelves
-named client b sent shelves is has = rw is has
-
-pub not-named : (client : ℕ) (b : Batch) (sent : List Message) (shelves : List (List Message))
-    → is_the_number client b.client ≡ false → HasReports sent shelves
-    → HasReports (sent ++ told_by_batch client b) shelves
-not-named client b sent shelves is has = rw is
-    (subst (λ (xs : List Message). HasReports xs shelves) (sym (append-nil sent)) has)
+use Rattle.gate_audit.specs.Read.{for_clients}
+use Rattle.gate_audit.proofs.Held.{known-more}
 
 -- ---- what is made of each that passes a test, one more
 
@@ -85,3 +51,30 @@ each-same P p xs i x inside is fails all =
     let none : filter p (x ∷ []) ≡ [] = rw fails refl in
     subst (Each P) (sym (filtered-more p xs i x inside is
     ∙ (ap (λ zs. filter p (take i xs) ++ zs) none ∙ append-nil (filter p (take i xs))))) all
+
+pub each-left : {X : Type 0} (P : X → Type 0) (xs ys : List X) → Each P (xs ++ ys) → Each P xs
+each-left P [] ys each = tt
+each-left P (x ∷ xs) ys each = (each.0, each-left P xs ys each.1)
+
+pub each-right : {X : Type 0} (P : X → Type 0) (xs ys : List X) → Each P (xs ++ ys) → Each P ys
+each-right P [] ys each = each
+each-right P (x ∷ xs) ys each = each-right P xs ys each.1
+
+-- ---- of each client
+
+pub each-for : {X : Type 0} (P : X → Type 0) (f : ℕ → List X) (n : ℕ)
+    → ((c : ℕ) → 1 ≤ c → c ≤ n → Each P (f c)) → Each P (for_clients f n)
+each-for P f ℕ.zero each = tt
+each-for P f (ℕ.suc n) each =
+    each-append P (for_clients f n) (f (ℕ.suc n)) (each-for P f n (λ c some most. each c some (omega (arith, most))))
+    (each (ℕ.suc n) (omega arith) (omega arith))
+
+pub each-of-for : {X : Type 0} (P : X → Type 0) (f : ℕ → List X) (n : ℕ) → Each P (for_clients f n)
+    → (c : ℕ) → 1 ≤ c → c ≤ n → Each P (f c)
+each-of-for P f ℕ.zero each c some most = absurd (omega (arith, some, most))
+each-of-for P f (ℕ.suc n) each c some most =
+    let next : n + 1 ≡ ℕ.suc n = omega arith in
+    known-more (λ (k : ℕ). Each P (f k)) n
+    (each-of-for P f n (each-left P (for_clients f n) (f (ℕ.suc n)) each))
+    (subst (λ (k : ℕ). Each P (f k)) (sym next) (each-right P (for_clients f n) (f (ℕ.suc n)) each))
+    c some (omega (arith, most))

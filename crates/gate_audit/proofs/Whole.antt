@@ -1,28 +1,30 @@
 -- The orders that whole reports open are those that their bodies open, and the pairs that are made of both are the
 -- same.
-use Rattle.std.proofs.Common.{◌≡◌, ◌+◌, ℕ, Bool, List, [], ◌∷◌, ◌++◌, Option, Some, None, map, reverse, length, refl}
-use Rattle.std.proofs.Common.{sym, ap, subst, ◌∙◌, arith, append_assoc}
+use Rattle.std.proofs.Common.{◌≡◌, ◌+◌, ℕ, Bool, true, false, List, [], ◌∷◌, ◌++◌, Option, Some, None, map, reverse}
+use Rattle.std.proofs.Common.{length, refl, sym, ap, subst, ◌∙◌, arith, eqb-true}
 use Rattle.std.specs.Prelude.{◌==◌, if◌then◌else◌}
 use Rattle.order_accounts.specs.Held.{StaysHeld}
-use Rattle.std.proofs.lemmas.List.{append-nil, map-append, reverse-append, reverse-reverse}
+use Rattle.std.proofs.lemmas.List.{length-append, length-map, map-append}
 use Rattle.order_accounts.specs.ouch_codec.declared.outbound.Outbound.{Outbound}
 use Rattle.gate_law.specs.fix_fields.Field.{Message}
+use Rattle.order_law.specs.declared.account.Account.{Account}
 use Rattle.order_law.specs.Messages.{body_of}
+use Rattle.order_law.specs.Reading.{account_read}
 use Rattle.gate_core.proofs.order_machine.Executed.{count-more}
-use Rattle.gate_law.specs.Settings.{Settings, port_of, port_terms}
-use Rattle.gate_law.specs.Events.{History}
+use Rattle.gate_law.specs.Settings.{Settings}
+use Rattle.gate_law.specs.Events.{History, is_the_number}
 use Rattle.gate_law.specs.Holds.{told_by_batches}
-use Rattle.gate_events.specs.declared.event.Event.{Event}
-use Rattle.gate_events.specs.declared.batch.Batch.{Batch}
-use Rattle.gate_core.specs.Core.{history, onto, turn_of}
-use Rattle.gate_audit.specs.Again.{called_again}
-use Rattle.gate_audit.specs.Read.{for_clients, opens_new_order, reports_to}
-use Rattle.gate_audit.specs.Pairs.{AreHeld, OpenedOrder, Pair, SaidToClient, gives_token, handled_for, opened_order_at}
-use Rattle.gate_audit.specs.Pairs.{opened_orders, orders_of, pair_in, pairs_of, said_to_clients, said_by_batches}
-use Rattle.gate_audit.specs.Pairs.{said_to, tokens_given, told_anyone}
-use Rattle.gate_audit.proofs.Batches.{for-more, issued-is}
+use Rattle.gate_audit.specs.Read.{ReadOrder, for_clients, opens_new_order}
+use Rattle.gate_audit.specs.Pairs.{AllHeld, AreHeld, OpenedOrder, Pair, SaidToClient, gives_token, handled_for}
+use Rattle.gate_audit.specs.Pairs.{opened_order_at, opened_orders, orders_of, pair_in, paired, pairs, pairs_of}
+use Rattle.gate_audit.specs.Pairs.{said_to, said_to_clients, tokens_given, told_anyone}
+use Rattle.gate_audit.specs.Passes.{AreRead, StayRead, pairs_with, read_as, said_of, sent_to, told_whole}
+use Rattle.gate_audit.specs.Passes.{unread_order}
 use Rattle.gate_audit.proofs.Lists.{filter-reverse, map-map, map-reverse, map-same}
 use Rattle.gate_audit.proofs.Held.{stays-bodily, stays-whole}
+use Rattle.gate_audit.proofs.Agreeing.{for-same}
+use Rattle.gate_audit.proofs.Shelved.{each-for, each-of-for}
+use Rattle.gate_audit.proofs.Rereading.{nothing-read}
 use Rattle.gate_audit.proofs.Bodies.{same-first, same-opens, same-reading}
 
 -- the same without what a session writes round it
@@ -63,33 +65,67 @@ bodily-told : (client : Option ℕ) (reports : List Message)
 bodily-told None reports = refl
 bodily-told (Some n) reports = map-map (said_to n) body_of reports ∙ sym (map-map bodily (said_to n) reports)
 
-abbrev told_in : Batch → List SaidToClient
-told_in b = told_anyone b.client b.reports.items
+-- all that a history told
+said-whole : (h : History) → said_to_clients h ≡ map bodily (told_whole h)
+said-whole [] = refl
+said-whole (t ∷ before) =
+    let x : List SaidToClient = told_anyone t.batch.client t.batch.reports in
+    ap (λ (xs : List SaidToClient). reverse xs ++ said_to_clients before)
+    (bodily-told t.batch.client t.batch.reports)
+    ∙ (ap (λ (ys : List SaidToClient). reverse (map bodily x) ++ ys) (said-whole before)
+    ∙ (ap (λ (zs : List SaidToClient). zs ++ map bodily (told_whole before)) (sym (map-reverse bodily x))
+    ∙ sym (map-append bodily (reverse x) (told_whole before))))
 
-said-one : (e : Event) (b : Batch) (before : History)
-    → said_to_clients (turn_of e b ∷ before) ≡ reverse (map bodily (told_in b)) ++ said_to_clients before
-said-one e b before = ap (λ (all : List SaidToClient). reverse all ++ said_to_clients before)
-    (bodily-told b.client b.reports.items)
+pub same-tokens : (h : History) → tokens_given (said_to_clients h) ≡ tokens_given (told_whole h)
+same-tokens h = ap tokens_given (said-whole h) ∙ same-count (told_whole h)
 
-said-onto : (events : List Event) (batches : List Batch) (before : History) → length batches ≡ length events
-    → said_to_clients (onto events batches before)
-    ≡ reverse (map bodily (said_by_batches batches)) ++ said_to_clients before
-said-onto [] [] before same = refl
-said-onto [] (b ∷ batches) before same = absurd (omega (arith, same))
-said-onto (e ∷ events) [] before same = absurd (omega (arith, same))
-said-onto (e ∷ events) (b ∷ batches) before same =
-    let x = told_in b in
-    let xs = said_by_batches batches in
-    said-onto events batches (turn_of e b ∷ before) (omega (arith, same))
-    ∙ (ap (λ ys. reverse (map bodily xs) ++ ys) (said-one e b before)
-    ∙ (sym (append_assoc (reverse (map bodily xs)) (reverse (map bodily x)) (said_to_clients before))
-    ∙ ap (λ ys. ys ++ said_to_clients before)
-    (sym (reverse-append (map bodily x) (map bodily xs)) ∙ ap reverse (sym (map-append bodily x xs)))))
+-- the orders of a client, the oldest first
+pub orders-whole : (h : History) (c : ℕ) → reverse (orders_of c (opened_orders (said_to_clients h)))
+    ≡ orders_of c (reverse (opened_orders (told_whole h)))
+orders-whole h c =
+    ap (λ (all : List SaidToClient). reverse (orders_of c (opened_orders all))) (said-whole h)
+    ∙ ap (λ (x : List OpenedOrder). reverse (orders_of c x)) (same-opened (told_whole h))
+    ∙ sym (filter-reverse (λ (o : OpenedOrder). o.client == c) (opened_orders (told_whole h)))
 
-said-is : (events : List Event) (batches : List Batch) → length batches ≡ length events
-    → said_to_clients (history events batches) ≡ map bodily (reverse (said_by_batches batches))
-said-is events batches same = said-onto events batches [] same
-    ∙ (append-nil (reverse (map bodily (said_by_batches batches))) ∙ sym (map-reverse bodily (said_by_batches batches)))
+-- ---- what a client was told
+
+sent-anyone : (c : ℕ) (k : Option ℕ) (xs : List Message) (all : List SaidToClient)
+    → sent_to c (told_anyone k xs ++ all) ≡ (if is_the_number c k then xs else []) ++ sent_to c all
+sent-anyone c None xs all = refl
+sent-anyone c (Some k) [] all = by_test (k == c)
+  where
+    by_test : (b : Bool) → sent_to c all ≡ (if b then [] else []) ++ sent_to c all
+    by_test true = refl
+    by_test false = refl
+sent-anyone c (Some k) (x ∷ xs) all = by_test (k == c) (sent-anyone c (Some k) xs all)
+  where
+    by_test : (b : Bool) → sent_to c (map (said_to k) xs ++ all) ≡ (if b then xs else []) ++ sent_to c all
+        → (if b then x ∷ sent_to c (map (said_to k) xs ++ all) else sent_to c (map (said_to k) xs ++ all))
+        ≡ (if b then x ∷ xs else []) ++ sent_to c all
+    by_test true rest = ap (λ (ys : List Message). x ∷ ys) rest
+    by_test false rest = rest
+
+anyone-reverse : (k : Option ℕ) (xs : List Message) → reverse (told_anyone k xs) ≡ told_anyone k (reverse xs)
+anyone-reverse None xs = refl
+anyone-reverse (Some k) xs = sym (map-reverse (said_to k) xs)
+
+pub sent-whole : (c : ℕ) (h : History) → told_by_batches c h ≡ map body_of (sent_to c (told_whole h))
+sent-whole c [] = refl
+sent-whole c (t ∷ before) =
+    by_client (is_the_number c t.batch.client) (sent-whole c before)
+    ∙ sym (ap (λ (xs : List SaidToClient). map body_of (sent_to c (xs ++ told_whole before)))
+    (anyone-reverse t.batch.client t.batch.reports)
+    ∙ ap (map body_of) (sent-anyone c t.batch.client (reverse t.batch.reports) (told_whole before)))
+  where
+    by_client : (b : Bool) → told_by_batches c before ≡ map body_of (sent_to c (told_whole before))
+        → (if b then reverse (map body_of t.batch.reports) ++ told_by_batches c before else told_by_batches c before)
+        ≡ map body_of ((if b then reverse t.batch.reports else []) ++ sent_to c (told_whole before))
+    by_client true rest =
+        ap (λ (ys : List Message). reverse (map body_of t.batch.reports) ++ ys) rest
+        ∙ (ap (λ (zs : List Message). zs ++ map body_of (sent_to c (told_whole before)))
+        (sym (map-reverse body_of t.batch.reports))
+        ∙ sym (map-append body_of (reverse t.batch.reports) (sent_to c (told_whole before))))
+    by_client false rest = rest
 
 -- ---- pairs
 
@@ -97,54 +133,106 @@ same-pair : (sent : List Message) (ms : List Outbound) (o : OpenedOrder)
     → pair_in (map body_of sent) ms o ≡ pair_in sent ms o
 same-pair sent ms o = rw (same-reading o.order sent) refl
 
--- the orders of a client, the oldest first
-pub orders-whole : (events : List Event) (batches : List Batch) (c : ℕ) → length batches ≡ length events
-    → reverse (orders_of c (opened_orders (said_to_clients (history events batches))))
-    ≡ orders_of c (reverse (opened_orders (reverse (said_by_batches batches))))
-orders-whole events batches c same =
-    ap (λ (all : List SaidToClient). reverse (orders_of c (opened_orders all))) (said-is events batches same)
-    ∙ ap (λ (x : List OpenedOrder). reverse (orders_of c x)) (same-opened (reverse (said_by_batches batches)))
-    ∙ sym (filter-reverse (λ (o : OpenedOrder). o.client == c) (opened_orders (reverse (said_by_batches batches))))
-
 -- those of a client, by its whole reports
-pairs-whole : (s : Settings) (events : List Event) (batches : List Batch) (c : ℕ) → length batches ≡ length events
-    → pairs_of s (history events batches) c
-    ≡ map (pair_in (reverse (reports_to c batches)) (handled_for s (history events batches) c))
-    (orders_of c (reverse (opened_orders (reverse (said_by_batches batches)))))
-pairs-whole s events batches c same =
-    let h = history events batches in
-    let sent = reverse (reports_to c batches) in
-    let os = reverse (opened_orders (reverse (said_by_batches batches))) in
-    ap (map (pair_in (told_by_batches c h) (handled_for s h c))) (orders-whole events batches c same)
-    ∙ ap (λ (rs : List Message). map (pair_in rs (handled_for s h c)) (orders_of c os))
-    (issued-is c events batches same)
+pairs-whole : (s : Settings) (h : History) (c : ℕ) → pairs_of s h c
+    ≡ map (pair_in (sent_to c (told_whole h)) (handled_for s h c))
+    (orders_of c (reverse (opened_orders (told_whole h))))
+pairs-whole s h c =
+    let sent = sent_to c (told_whole h) in
+    let os = reverse (opened_orders (told_whole h)) in
+    ap (map (pair_in (told_by_batches c h) (handled_for s h c))) (orders-whole h c)
+    ∙ ap (λ (rs : List Message). map (pair_in rs (handled_for s h c)) (orders_of c os)) (sent-whole c h)
     ∙ map-same (pair_in (map body_of sent) (handled_for s h c)) (pair_in sent (handled_for s h c))
     (same-pair sent (handled_for s h c)) (orders_of c os)
 
--- one client more
-pub pairs-more : (s : Settings) (n port : ℕ) (kept : List Pair) (reports : List Message) (handled : List Outbound)
-    (openings : List OpenedOrder) (events : List Event) (batches : List Batch) → length batches ≡ length events
-    → reports ≡ reports_to (n + 1) batches → port ≡ port_of s (n + 1)
-    → handled ≡ reverse (called_again (port_terms s port) port (history events batches)).handled
-    → openings ≡ reverse (opened_orders (reverse (said_by_batches batches)))
-    → kept ≡ for_clients (pairs_of s (history events batches)) n
-    → kept ++ map (pair_in (reverse reports) (reverse handled)) (orders_of (n + 1) openings)
-    ≡ for_clients (pairs_of s (history events batches)) (n + 1)
-pairs-more s n port kept reports handled openings events batches same are_reports is_port are_handled are_openings
-    is_kept =
-    let h = history events batches in
-    let ms : reverse handled ≡ handled_for s h (n + 1) =
-    ap reverse are_handled ∙ reverse-reverse (called_again (port_terms s port) port h).handled
-    ∙ ap (λ (p : ℕ). (called_again (port_terms s p) p h).handled) is_port in
-    ap (λ (ps : List Pair). ps ++ map (pair_in (reverse reports) (reverse handled)) (orders_of (n + 1) openings))
-    is_kept
-    ∙ ap (λ (ps : List Pair). for_clients (pairs_of s h) n ++ ps)
-    (ap (λ (rs : List Message). map (pair_in (reverse rs) (reverse handled)) (orders_of (n + 1) openings)) are_reports
-    ∙ ap (λ (x : List Outbound). map (pair_in (reverse (reports_to (n + 1) batches)) x) (orders_of (n + 1) openings)) ms
-    ∙ ap (λ (os : List OpenedOrder). map (pair_in (reverse (reports_to (n + 1) batches)) (handled_for s h (n + 1)))
-    (orders_of (n + 1) os)) are_openings
-    ∙ sym (pairs-whole s events batches (n + 1) same))
-    ∙ sym (for-more (pairs_of s h) n)
+-- readings of a client's orders, each with what the market said of it
+own-pairs : (all : List SaidToClient) (ms : List Outbound) (c : ℕ) (os : List OpenedOrder)
+    → pairs_with (map (read_as all) (map unread_order (orders_of c os))) (map (said_of ms) (orders_of c os))
+    ≡ map (pair_in (sent_to c all) ms) (orders_of c os)
+own-pairs all ms c [] = refl
+own-pairs all ms c (o ∷ os) = by_test (o.client == c) refl (own-pairs all ms c os)
+  where
+    by_test : (b : Bool) → (o.client == c) ≡ b
+        → pairs_with (map (read_as all) (map unread_order (orders_of c os))) (map (said_of ms) (orders_of c os))
+        ≡ map (pair_in (sent_to c all) ms) (orders_of c os)
+        → pairs_with (map (read_as all) (map unread_order (if b then o ∷ orders_of c os else orders_of c os)))
+        (map (said_of ms) (if b then o ∷ orders_of c os else orders_of c os))
+        ≡ map (pair_in (sent_to c all) ms) (if b then o ∷ orders_of c os else orders_of c os)
+    by_test true is rest =
+        ap (λ (k : ℕ). pair_in (sent_to k all) ms o ∷ pairs_with (map (read_as all) (map unread_order (orders_of c os)))
+        (map (said_of ms) (orders_of c os))) (eqb-true o.client c is)
+        ∙ ap (λ (ps : List Pair). pair_in (sent_to c all) ms o ∷ ps) rest
+    by_test false is rest = rest
+
+pub with-append : (os ps : List ReadOrder) (xs ys : List Account) → length os ≡ length xs
+    → pairs_with (os ++ ps) (xs ++ ys) ≡ pairs_with os xs ++ pairs_with ps ys
+with-append [] ps [] ys same = refl
+with-append [] ps (x ∷ xs) ys same = absurd (omega (arith, same))
+with-append (o ∷ os) ps [] ys same = absurd (omega (arith, same))
+with-append (o ∷ os) ps (x ∷ xs) ys same =
+    ap (λ (zs : List Pair). paired o.client o.id (account_read o.reading) x ∷ zs)
+    (with-append os ps xs ys (omega (arith, same)))
+
+for-length : {X Y : Type 0} (f : ℕ → List X) (g : ℕ → List Y) → ((c : ℕ) → length (f c) ≡ length (g c)) → (n : ℕ)
+    → length (for_clients f n) ≡ length (for_clients g n)
+for-length f g same ℕ.zero = refl
+for-length f g same (ℕ.suc n) =
+    let before = for-length f g same n in
+    let next = same (ℕ.suc n) in
+    length-append (for_clients f n) (f (ℕ.suc n))
+    ∙ (omega (arith, before, next) ∙ sym (length-append (for_clients g n) (g (ℕ.suc n))))
+
+for-pairs : (f : ℕ → List ReadOrder) (g : ℕ → List Account) → ((c : ℕ) → length (f c) ≡ length (g c)) → (n : ℕ)
+    → pairs_with (for_clients f n) (for_clients g n) ≡ for_clients (λ c. pairs_with (f c) (g c)) n
+for-pairs f g same ℕ.zero = refl
+for-pairs f g same (ℕ.suc n) =
+    with-append (for_clients f n) (f (ℕ.suc n)) (for_clients g n) (g (ℕ.suc n)) (for-length f g same n)
+    ∙ ap (λ (ps : List Pair). ps ++ pairs_with (f (ℕ.suc n)) (g (ℕ.suc n))) (for-pairs f g same n)
+
+pub map-for : {X Y : Type 0} (made : X → Y) (f : ℕ → List X) (n : ℕ)
+    → map made (for_clients f n) ≡ for_clients (λ c. map made (f c)) n
+map-for made f ℕ.zero = refl
+map-for made f (ℕ.suc n) =
+    map-append made (for_clients f n) (f (ℕ.suc n))
+    ∙ ap (λ ys. ys ++ map made (f (ℕ.suc n))) (map-for made f n)
+
+-- all orders that a history opened, by client
+abbrev pub orders_opened : Settings → History → List ReadOrder
+orders_opened s h = for_clients (λ c. map unread_order (orders_of c (reverse (opened_orders (told_whole h)))))
+    (length s.clients)
+
+abbrev pub said_opened : Settings → History → List Account
+said_opened s h = for_clients (λ c. map (said_of (handled_for s h c))
+    (orders_of c (reverse (opened_orders (told_whole h))))) (length s.clients)
+
+length-both : (all : List SaidToClient) (ms : List Outbound) (os : List OpenedOrder)
+    → length (map (read_as all) (map unread_order os)) ≡ length (map (said_of ms) os)
+length-both all ms [] = refl
+length-both all ms (o ∷ os) = ap ℕ.suc (length-both all ms os)
+
+pub pairs-read : (s : Settings) (h : History) (rows : List ReadOrder) (said : List Account)
+    → rows ≡ map (read_as (told_whole h)) (orders_opened s h) → said ≡ said_opened s h
+    → pairs_with rows said ≡ pairs s h
+pairs-read s h rows said are_rows are_said =
+    let all = told_whole h in
+    let O = reverse (opened_orders all) in
+    let f : ℕ → List ReadOrder = λ c. map (read_as all) (map unread_order (orders_of c O)) in
+    let g : ℕ → List Account = λ c. map (said_of (handled_for s h c)) (orders_of c O) in
+    let n = length s.clients in
+    ap (λ (rs : List ReadOrder). pairs_with rs said)
+    (are_rows ∙ map-for (read_as all) (λ c. map unread_order (orders_of c O)) n)
+    ∙ (ap (pairs_with (for_clients f n)) are_said
+    ∙ (for-pairs f g (λ c. length-both all (handled_for s h c) (orders_of c O)) n
+    ∙ for-same (λ c. pairs_with (f c) (g c)) (pairs_of s h)
+    (λ c. own-pairs all (handled_for s h c) c O ∙ sym (pairs-whole s h c)) n))
+
+same-many : (s : Settings) (h : History) → length (orders_opened s h) ≡ length (said_opened s h)
+same-many s h =
+    for-length (λ c. map unread_order (orders_of c (reverse (opened_orders (told_whole h)))))
+    (λ c. map (said_of (handled_for s h c)) (orders_of c (reverse (opened_orders (told_whole h)))))
+    (λ c. length-map (orders_of c (reverse (opened_orders (told_whole h)))) unread_order
+    ∙ sym (length-map (orders_of c (reverse (opened_orders (told_whole h)))) (said_of (handled_for s h c))))
+    (length s.clients)
 
 -- ---- numbers that integers hold
 
@@ -153,37 +241,96 @@ each-held : (xs ys : List Message) → ((order : List ℕ) → StaysHeld order x
 each-held xs ys same [] held = tt
 each-held xs ys same (o ∷ os) held = (same o.order held.0, each-held xs ys same os held.1)
 
--- of the orders of a client, by what the code reads
-module _ (events : List Event) (batches : List Batch) (c : ℕ) (same : length batches ≡ length events)
-    (reports : List Message) (openings : List OpenedOrder)
-    (are_reports : reports ≡ reports_to c batches) (are_openings : openings ≡ reverse (opened_orders (reverse (said_by_batches batches)))) where
-  issued-now : told_by_batches c (history events batches) ≡ map body_of (reverse reports)
-  issued-now = issued-is c events batches same ∙ ap (λ (rs : List Message). map body_of (reverse rs)) (sym are_reports)
+own-held : (all : List SaidToClient) (c : ℕ) (os : List OpenedOrder)
+    → StayRead all (map unread_order (orders_of c os)) → AreHeld (sent_to c all) (orders_of c os)
+own-held all c [] held = tt
+own-held all c (o ∷ os) held = by_test (o.client == c) refl (own-held all c os) held
+  where
+    by_test : (b : Bool) → (o.client == c) ≡ b
+        → (StayRead all (map unread_order (orders_of c os)) → AreHeld (sent_to c all) (orders_of c os))
+        → StayRead all (map unread_order (if b then o ∷ orders_of c os else orders_of c os))
+        → AreHeld (sent_to c all) (if b then o ∷ orders_of c os else orders_of c os)
+    by_test true is rest held =
+        (subst (λ (k : ℕ). StaysHeld o.order (sent_to k all)) (eqb-true o.client c is) held.0, rest held.1)
+    by_test false is rest held = rest held
 
-  orders-now : reverse (orders_of c (opened_orders (said_to_clients (history events batches)))) ≡ orders_of c openings
-  orders-now = orders-whole events batches c same ∙ ap (orders_of c) (sym are_openings)
+held-own : (all : List SaidToClient) (c : ℕ) (os : List OpenedOrder)
+    → AreHeld (sent_to c all) (orders_of c os) → StayRead all (map unread_order (orders_of c os))
+held-own all c [] held = tt
+held-own all c (o ∷ os) held = by_test (o.client == c) refl (held-own all c os) held
+  where
+    by_test : (b : Bool) → (o.client == c) ≡ b
+        → (AreHeld (sent_to c all) (orders_of c os) → StayRead all (map unread_order (orders_of c os)))
+        → AreHeld (sent_to c all) (if b then o ∷ orders_of c os else orders_of c os)
+        → StayRead all (map unread_order (if b then o ∷ orders_of c os else orders_of c os))
+    by_test true is rest held =
+        (subst (λ (k : ℕ). StaysHeld o.order (sent_to k all)) (sym (eqb-true o.client c is)) held.0, rest held.1)
+    by_test false is rest held = rest held
 
-  pub held-now : AreHeld (reverse reports) (orders_of c openings)
-      → AreHeld (told_by_batches c (history events batches))
-      (reverse (orders_of c (opened_orders (said_to_clients (history events batches)))))
-  held-now held =
-      subst (λ (sent : List Message). AreHeld sent
-      (reverse (orders_of c (opened_orders (said_to_clients (history events batches)))))) (sym issued-now)
-      (subst (AreHeld (map body_of (reverse reports))) (sym orders-now)
-      (each-held (reverse reports) (map body_of (reverse reports)) (λ order. stays-bodily order (reverse reports))
-      (orders_of c openings) held))
+pub all-held : (s : Settings) (h : History) → StayRead (told_whole h) (orders_opened s h) → AllHeld s h
+all-held s h held c some known =
+    let all = told_whole h in
+    let O = reverse (opened_orders all) in
+    subst (λ (sent : List Message). AreHeld sent (reverse (orders_of c (opened_orders (said_to_clients h)))))
+    (sym (sent-whole c h))
+    (subst (AreHeld (map body_of (sent_to c all))) (sym (orders-whole h c))
+    (each-held (sent_to c all) (map body_of (sent_to c all)) (λ order. stays-bodily order (sent_to c all))
+    (orders_of c O) (own-held all c O
+    (each-of-for (λ (o : ReadOrder). StaysHeld o.order (sent_to o.client all))
+    (λ k. map unread_order (orders_of k O)) (length s.clients) held c some known))))
 
-  pub held-then : AreHeld (told_by_batches c (history events batches))
-      (reverse (orders_of c (opened_orders (said_to_clients (history events batches)))))
-      → AreHeld (reverse reports) (orders_of c openings)
-  held-then held =
-      each-held (map body_of (reverse reports)) (reverse reports) (λ order. stays-whole order (reverse reports))
-      (orders_of c openings)
-      (subst (AreHeld (map body_of (reverse reports))) orders-now
-      (subst (λ (sent : List Message). AreHeld sent
-      (reverse (orders_of c (opened_orders (said_to_clients (history events batches)))))) issued-now held))
+pub held-all : (s : Settings) (h : History) → AllHeld s h → StayRead (told_whole h) (orders_opened s h)
+held-all s h held =
+    let all = told_whole h in
+    let O = reverse (opened_orders all) in
+    each-for (λ (o : ReadOrder). StaysHeld o.order (sent_to o.client all))
+    (λ k. map unread_order (orders_of k O)) (length s.clients)
+    (λ c some known. held-own all c O
+    (each-held (map body_of (sent_to c all)) (sent_to c all) (λ order. stays-whole order (sent_to c all))
+    (orders_of c O)
+    (subst (AreHeld (map body_of (sent_to c all))) (orders-whole h c)
+    (subst (λ (sent : List Message). AreHeld sent (reverse (orders_of c (opened_orders (said_to_clients h)))))
+    (sent-whole c h) (held c some known)))))
 
-pub same-tokens : (events : List Event) (batches : List Batch) → length batches ≡ length events
-    → tokens_given (said_to_clients (history events batches)) ≡ tokens_given (reverse (said_by_batches batches))
-same-tokens events batches same = ap tokens_given (said-is events batches same)
-    ∙ same-count (reverse (said_by_batches batches))
+-- ---- of orders that were opened nothing was read at first
+
+unread-same : (os : List OpenedOrder) → map (read_as []) (map unread_order os) ≡ map unread_order os
+unread-same [] = refl
+unread-same (o ∷ os) = ap (λ (xs : List ReadOrder). unread_order o ∷ xs) (unread-same os)
+
+for-unread : (os : List OpenedOrder) (n : ℕ)
+    → for_clients (λ c. map unread_order (orders_of c os)) n
+    ≡ map (read_as []) (for_clients (λ c. map unread_order (orders_of c os)) n)
+for-unread os n =
+    for-same (λ c. map unread_order (orders_of c os)) (λ c. map (read_as []) (map unread_order (orders_of c os)))
+    (λ c. sym (unread-same (orders_of c os))) n
+    ∙ sym (map-for (read_as []) (λ c. map unread_order (orders_of c os)) n)
+
+pub opened-unread : (s : Settings) (h : History) (orders : List ReadOrder) → orders ≡ orders_opened s h
+    → AreRead (orders_opened s h) [] orders
+opened-unread s h orders are = record {
+  read = are ∙ for-unread (reverse (opened_orders (told_whole h))) (length s.clients);
+  held = nothing-read (orders_opened s h);
+}
+
+pub orders-are : (s : Settings) (h : History) (os : List OpenedOrder) (n : ℕ) (orders : List ReadOrder)
+    → os ≡ reverse (opened_orders (told_whole h)) → n ≡ length s.clients
+    → orders ≡ for_clients (λ c. map unread_order (orders_of c os)) n → orders ≡ orders_opened s h
+orders-are s h os n orders are_openings is_many is =
+    is ∙ (ap (λ (xs : List OpenedOrder). for_clients (λ c. map unread_order (orders_of c xs)) n) are_openings
+    ∙ ap (for_clients (λ c. map unread_order (orders_of c (reverse (opened_orders (told_whole h)))))) is_many)
+
+pub said-are : (s : Settings) (h : History) (os : List OpenedOrder) (said : List Account)
+    → os ≡ reverse (opened_orders (told_whole h))
+    → said ≡ for_clients (λ c. map (said_of (handled_for s h c)) (orders_of c os)) (length s.clients)
+    → said ≡ said_opened s h
+said-are s h os said are_openings is =
+    is ∙ ap (λ (xs : List OpenedOrder). for_clients (λ c. map (said_of (handled_for s h c)) (orders_of c xs))
+    (length s.clients)) are_openings
+
+pub as-many : (s : Settings) (h : History) (now : List ReadOrder) (said : List Account)
+    → now ≡ map (read_as (told_whole h)) (orders_opened s h) → said ≡ said_opened s h → length now ≡ length said
+as-many s h now said are_read are_said =
+    ap (λ (xs : List ReadOrder). length xs) are_read
+    ∙ (length-map (orders_opened s h) (read_as (told_whole h))
+    ∙ (same-many s h ∙ sym (ap (λ (xs : List Account). length xs) are_said)))

@@ -10,8 +10,8 @@ use Rattle.order_accounts.specs.ouch_codec.declared.refusal.DecodeRefusal.{Decod
 use Rattle.order_accounts.specs.ouch_codec.Values.{decoded}
 use Rattle.gate_core.specs.soup_session.declared.port_fault.PortFault.{PortFault}
 use Rattle.gate_core.specs.soup_session.Table as port
-use Rattle.gate_law.specs.Events.{Event, ClientUp, ClientMessage, ClientGone, ClientTick, PortUp, PortPacket, PortGone}
-use Rattle.gate_law.specs.Events.{PortTick, Batch, History, is_the_number}
+use Rattle.gate_law.specs.Events.{Event, PortUp, PortPacket, PortGone}
+use Rattle.gate_law.specs.Events.{Batch, History, is_the_number}
 use Rattle.gate_law.specs.After.{is_close, is_within_day}
 
 -- a port's current link, the calls of its session, and the messages that it delivered and that were no fault, both

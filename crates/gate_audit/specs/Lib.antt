@@ -3,6 +3,9 @@ pub mod Again
 pub mod Called
 pub mod Pairs
 pub mod Counted
+pub mod Passes
+pub mod Accepted
+pub mod FirstPass
 pub mod Played
 pub use Rattle.gate_law.specs.fix_fields.Field
 pub use Rattle.gate_events.specs.Seen

@@ -3,7 +3,7 @@
 -- token.)
 use Rattle.std.specs.Prelude.{ℕ, ◌<◌, ◌≤◌, ◌==◌, Bool, true, not, ◌&&◌, ◌||◌, List, [], ◌∷◌, ◌++◌, Option, Some, None}
 use Rattle.std.specs.Prelude.{map, filter, reverse, length, codes, if◌then◌else◌}
-use Rattle.std.specs.List.{count_by, flat_map}
+use Rattle.std.specs.List.{count_by}
 use Rattle.std.specs.Str.Parse.{digits_value}
 use Rattle.order_law.specs.tokens.TokenText.{token_text}
 use Rattle.order_accounts.specs.ouch_codec.declared.outbound.Outbound.{Outbound}
@@ -21,7 +21,6 @@ use Rattle.gate_law.specs.Events.{History}
 use Rattle.gate_law.specs.Outcome.{bodies}
 use Rattle.gate_law.specs.After.{order_turns}
 use Rattle.gate_law.specs.Holds.{told_by_batches}
-use Rattle.gate_events.specs.declared.batch.Batch.{Batch}
 use Rattle.gate_audit.specs.Again.{called_again}
 use Rattle.gate_audit.specs.Read.{for_clients, accepted_new_orders, opens_new_order}
 
@@ -36,10 +35,6 @@ said_to client r = record { client = client; report = r }
 abbrev pub told_anyone : Option ℕ → List Message → List SaidToClient
 told_anyone None reports = []
 told_anyone (Some client) reports = map (said_to client) reports
-
--- all that batches told, whole, the oldest first
-abbrev pub said_by_batches : List Batch → List SaidToClient
-said_by_batches batches = flat_map (λ b. told_anyone b.client b.reports.items) batches
 
 -- all that the batches of a history told, the newest first
 abbrev pub said_to_clients : History → List SaidToClient

@@ -1,8 +1,6 @@
 -- What clients have read of their orders: by the batches of a history alone, and as the order level's turns have it.
 -- (FIX 4.4 Volume 4, "Execution Report".)
 use Rattle.std.specs.Prelude.{ℕ, suc, ◌≤◌, ◌==◌, Bool, ◌&&◌, List, [], ◌++◌, map, filter, reverse, length, codes}
-use Rattle.std.specs.Prelude.{if◌then◌else◌}
-use Rattle.std.specs.List.{flat_map}
 use Rattle.gate_law.specs.fix_fields.Field.{Message, text, is}
 use Rattle.order_law.specs.Reading.{Reading, is_report, reading}
 use Rattle.order_law.specs.History as orders
@@ -10,10 +8,9 @@ use Rattle.order_law.specs.History.{Entry, accepted, is_new_order}
 use Rattle.order_law.specs.Headline.{Agree, Each, life_in}
 use Rattle.order_accounts.specs.Held.{StaysHeld}
 use Rattle.gate_law.specs.Settings.{Settings, terms}
-use Rattle.gate_law.specs.Events.{History, is_the_number}
+use Rattle.gate_law.specs.Events.{History}
 use Rattle.gate_law.specs.After.{order_turns}
 use Rattle.gate_law.specs.Holds.{told_by_batches}
-use Rattle.gate_events.specs.declared.batch.Batch.{Batch}
 
 -- what a client has read of one of its orders: OrderID (37), and the first ClOrdID (11)
 pub record ReadOrder : Type 0 where
@@ -23,13 +20,6 @@ pub record ReadOrder : Type 0 where
   pub reading : Reading
 
 -- ---- by the batches
-
--- the reports and rejects that a client was told, whole, the oldest first
-abbrev pub told_by_batch : ℕ → Batch → List Message
-told_by_batch client b = if is_the_number client b.client then b.reports.items else []
-
-abbrev pub reports_to : ℕ → List Batch → List Message
-reports_to client batches = flat_map (told_by_batch client) batches
 
 -- an order that was accepted, by its OrderID and first ClOrdID
 pub record Opened : Type 0 where

@@ -1,21 +1,22 @@
 //! What clients have read of their orders.
 
-ghost use Rattle.std.specs.Prelude.{◌≡◌, ◌++◌, List, IfOk, OnOk, IsErrOf, length, map, reverse};
+ghost use Rattle.std.specs.Prelude.{◌≡◌, ◌≤◌, ◌++◌, [], List, IfOk, OnOk, IsErrOf, length, map};
 ghost use Rattle.order_law.specs.Headline.{Each};
-ghost use Rattle.order_accounts.specs.Held.{StaysHeld};
 ghost use Rattle.gate_law.specs.Holds.{Holds};
-ghost use Rattle.gate_events.specs.declared.event.Event.{Event};
-ghost use Rattle.gate_core.specs.Core as core;
 ghost use Rattle.gate_journal.specs.Kept.{turns};
+ghost use Rattle.gate_audit.specs.Accepted.{as_unread, own_of};
+ghost use Rattle.gate_audit.specs.Passes.{AreRead, StayRead, told_whole};
 ghost use Rattle.gate_audit.specs.Read as read;
+ghost use Rattle.gate_audit.specs.Read.{ReadOrder, for_clients};
 
+use crate::accepted::accepted_of;
 use crate::order_reading::OrderReading;
-use crate::reports::{opens_order, reports_of, text};
-use gate_core::{Batch, ClientNumber, Settings};
+use crate::order_readings::OrderReadings;
+use gate_core::Settings;
 use gate_journal::History;
-use gate_law::{Fields, Text};
-use order_accounts::{ReadingFault, reading_of};
-use std::alloc::Global;
+use gate_law::Text;
+use order_accounts::{Reading, ReadingFault};
+use std::alloc::{AllocError, Global};
 
 /// What each client has read of each of its orders that were accepted, by client and then in the order in which they
 /// were accepted, from the reports of the batches alone.
@@ -40,75 +41,78 @@ pub fn readings(
     ensures large { IsErrOf result ReadingFault.TooLarge
         → read.AllReadHeld (length settings.now.clients) (turns history.now) → ⊥ }
 {
-    let batches = history.batches(alloc)?;
-    readings_in(alloc, batches.as_slice(), settings)
+    let accepted = accepted_of(alloc, history)?;
+    let clients = settings.clients().len();
+    let orders = own_orders(alloc, clients, accepted.orders.as_slice())?;
+    read_all(alloc, history, orders)
 }
 
-/// The same by the batches of a history alone, whatever the events were.
-fn readings_in(
+/// Orders of so many clients, by client and then in the order of acceptance, of which nothing was read.
+fn own_orders(
     alloc: Global,
-    batches: &[Batch],
-    settings: &Settings,
-) -> Result<Vec<OrderReading>, ReadingFault>
-    ensures read { (events : List Event) → length batches.now ≡ length events → IfOk result (λ list. list.items
-        ≡ read.readings (length settings.now.clients) (core.history events batches.now)) }
-    ensures accepted { (events : List Event) → length batches.now ≡ length events → IfOk result (λ list.
-        Holds settings.now (core.history events batches.now)
-        → list.items ≡ read.accepted_readings settings.now (core.history events batches.now)) }
-    ensures held { (events : List Event) → length batches.now ≡ length events
-        → OnOk result (read.AllReadHeld (length settings.now.clients) (core.history events batches.now)) }
-    ensures large { (events : List Event) → length batches.now ≡ length events
-        → IsErrOf result ReadingFault.TooLarge
-        → read.AllReadHeld (length settings.now.clients) (core.history events batches.now) → ⊥ }
+    clients: usize,
+    accepted: &[OrderReading],
+) -> Result<Vec<OrderReading>, AllocError>
+    requires { clients ≤ 64 }
+    ensures { IfOk result (λ orders. orders.items
+        ≡ for_clients (λ c. map as_unread (own_of c accepted.now)) clients) }
 {
-    let mut readings = Vec::new(alloc);
-    for place in 0..settings.clients().len() {
-        let client = (place + 1) as u16;
-        let reports = reports_of(alloc, ClientNumber::at_place(place), batches)?;
-        read_client(alloc, client, &reports, &mut readings)?;
+    let mut orders = Vec::with_capacity(alloc, accepted.len())?;
+    for place in 0..clients {
+        push_own(alloc, (place + 1) as u16, accepted, &mut orders)?;
     }
-    Ok(readings)
+    Ok(orders)
 }
 
-/// What a client that was told these reports has read of each order that they open, behind what was read before.
-fn read_client(
+/// A client's orders, behind those before, of which nothing was read.
+fn push_own(
     alloc: Global,
     client: u16,
-    reports: &[Fields],
-    readings: &mut Vec<OrderReading>,
-) -> Result<(), ReadingFault>
-    ensures read { IfOk result (λ u. readings.new.items
-        ≡ readings.old.items ++ map (read.read_in client (reverse reports.now)) (read.opened_in reports.now)) }
-    ensures held { OnOk result (read.AreReadHeld (reverse reports.now) (read.opened_in reports.now)) }
-    ensures large { IsErrOf result ReadingFault.TooLarge
-        → read.AreReadHeld (reverse reports.now) (read.opened_in reports.now) → ⊥ }
+    accepted: &[OrderReading],
+    orders: &mut Vec<OrderReading>,
+) -> Result<(), AllocError>
+    ensures { IfOk result (λ u. orders.new.items
+        ≡ orders.old.items ++ map as_unread (own_of client accepted.now)) }
 {
-    for report in reports {
-        if opens_order(report) {
-            readings.push(read_order(alloc, client, report, reports)?)?;
+    for order in accepted {
+        if order.client == client {
+            orders.push(unread_again(alloc, order)?)?;
         }
     }
     Ok(())
 }
 
-/// What the client has read, in all these reports, of the order that this report opens.
-fn read_order(
-    alloc: Global,
-    client: u16,
-    report: &Fields,
-    reports: &[Fields],
-) -> Result<OrderReading, ReadingFault>
-    ensures read { IfOk result (λ order. order ≡ read.read_in client (reverse reports.now)
-        (read.opened_by report.now)) }
-    ensures held { OnOk result (StaysHeld (read.opened_by report.now).order (reverse reports.now)) }
-    ensures large { IsErrOf result ReadingFault.TooLarge
-        → StaysHeld (read.opened_by report.now).order (reverse reports.now) → ⊥ }
+/// The same order, of which nothing was read.
+fn unread_again(alloc: Global, order: &OrderReading) -> Result<OrderReading, AllocError>
+    ensures { IfOk result (λ again. again ≡ as_unread order.now) }
 {
-    let order = text(report, 37);
     Ok(OrderReading {
-        client,
-        order: Text::copied(alloc, order)?,
-        id: Text::copied(alloc, text(report, 11))?,
-        reading: reading_of(alloc, order, reports)?,
+        client: order.client,
+        order: Text::copied(alloc, order.order.as_slice())?,
+        id: Text::copied(alloc, order.id.as_slice())?,
+        reading: Reading::unread(alloc),
     })
+}
+
+/// What was read of these orders once each batch of a history was heard.
+///
+/// `TooLarge` just where, after one of its client's reports, what was read of an order has a number that is larger than
+/// its integer holds; or else `NoMemory`.
+pub(crate) fn read_all(
+    alloc: Global,
+    history: &History,
+    orders: Vec<OrderReading>,
+) -> Result<Vec<OrderReading>, ReadingFault>
+    ensures read { IfOk result (λ now. (os : List ReadOrder) → AreRead os [] orders.items
+        → AreRead os (told_whole (turns history.now)) now.items) }
+    ensures large { IsErrOf result ReadingFault.TooLarge → (os : List ReadOrder) → AreRead os [] orders.items
+        → StayRead (told_whole (turns history.now)) os → ⊥ }
+{
+    let mut readings = OrderReadings::of(alloc, orders)?;
+    let mut ahead = history.turns();
+    while let Some((_, batch, behind)) = ahead.split_first(alloc)? {
+        readings.take(alloc, &batch)?;
+        ahead = behind;
+    }
+    Ok(readings.into_orders())
 }

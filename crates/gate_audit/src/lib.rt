@@ -7,12 +7,16 @@
 //! Source: FIX 4.4 Volume 4, "Execution Report"; SoupBinTCP 3.00, "Sequenced Data Packet".
 #![tactic(auto)]
 
+mod accepted;
 mod accounts;
+mod first_pass;
+mod lives;
 mod messages;
 mod opening;
 mod openings;
 mod order_pair;
 mod order_reading;
+mod order_readings;
 mod pairs;
 mod played;
 mod port_again;

@@ -1,21 +1,25 @@
 //! The market's messages on a port that a run handled.
 
-ghost use Rattle.std.specs.Prelude.{◌≡◌, ◌≤◌, IfOk, length, reverse};
+ghost use Rattle.std.specs.Prelude.{◌≡◌, ◌≤◌, ◌∷◌, [], ℕ, IfOk, length, reverse};
 ghost use Rattle.order_law.specs.History as orders;
 ghost use Rattle.gate_law.specs.Settings.{port_terms};
 ghost use Rattle.gate_law.specs.After.{order_turns};
 ghost use Rattle.gate_law.specs.Holds.{Holds};
-ghost use Rattle.gate_core.specs.Core as core;
-ghost use Rattle.gate_journal.specs.Kept.{turns};
+ghost use Rattle.gate_law.specs.Events as law;
+ghost use Rattle.gate_core.specs.gate_settings.Kept.{CanLogIn};
+ghost use Rattle.gate_core.specs.soup_session.Table.{LoginTerms};
+ghost use Rattle.gate_events.specs.Seen.{batch_seen};
+ghost use Rattle.gate_journal.specs.Kept.{kept_turn, turns};
 ghost use Rattle.gate_audit.specs.Again.{called_again};
+ghost use Rattle.gate_audit.specs.Called.{HasRoom, IsHandled, heard_on};
 
 use crate::port_again::PortAgain;
-use gate_core::{Batch, Event, PortNumber, Settings};
+use gate_core::{Batch, Event, PortNumber, PortSettings, Settings};
 use gate_journal::History;
 use order_accounts::Outbound;
 use std::alloc::{AllocError, Global};
 
-/// So many events of a history were stepped: any that came later changed nothing.
+/// So many turns of a history are stepped: any that came later changed nothing.
 const MOST_EVENTS: u64 = 1 << 48;
 
 /// The messages of a port that the order level handled: what the payloads that the port's session delivered are
@@ -37,32 +41,58 @@ pub fn handled_messages(
     ensures run { IfOk result (λ handled. Holds settings.now (turns history.now)
         → handled.items ≡ reverse (orders.handled port (order_turns settings.now (turns history.now)))) }
 {
-    let events = history.events(alloc)?;
-    let batches = history.batches(alloc)?;
-    handled_in(alloc, events.as_slice(), batches.as_slice(), settings, port)
+    let terms = &settings.ports()[usize::from(port.number()) - 1];
+    let mut so_far = HandledSoFar::new(alloc, terms, port);
+    let mut ahead = history.turns();
+    while let Some((event, batch, behind)) = ahead.split_first(alloc)? {
+        so_far.take(alloc, &event, &batch)?;
+        ahead = behind;
+    }
+    Ok(so_far.again.handled)
 }
 
-/// The same of events with their batches.
-pub(crate) fn handled_in(
-    alloc: Global,
-    events: &[Event],
-    batches: &[Batch],
-    settings: &Settings,
+/// What a port's session delivered in the turns so far, when it is called once more with them.
+#[derive(Drop)]
+pub struct HandledSoFar {
     port: PortNumber,
-) -> Result<Vec<Outbound>, AllocError>
-    requires known { port ≤ length settings.now.ports }
-    requires count { length batches.now ≡ length events.now }
-    ensures read { IfOk result (λ handled. handled.items ≡ reverse
-        (called_again (port_terms settings.now port) port (core.history events.now batches.now)).handled) }
-    ensures run { IfOk result (λ handled. Holds settings.now (core.history events.now batches.now) → handled.items
-        ≡ reverse (orders.handled port (order_turns settings.now (core.history events.now batches.now)))) }
-{
-    let mut again = PortAgain::new(alloc, &settings.ports()[usize::from(port.number()) - 1]);
-    for i in 0..events.len() {
-        let (event, batch) = (&events[i], &batches[i]);
-        if (i as u64) < MOST_EVENTS {
-            again.step(alloc, port, event, batch)?;
+    again: PortAgain,
+    /// How many turns were stepped.
+    stepped: u64,
+}
+
+impl HandledSoFar {
+    /// Before any turn of the port of this number.
+    pub fn new(alloc: Global, settings: &PortSettings, port: PortNumber) -> HandledSoFar
+        requires { CanLogIn settings.now }
+        ensures handled { IsHandled settings.now port [] result }
+        ensures room { HasRoom result }
+    {
+        HandledSoFar {
+            port,
+            again: PortAgain::new(alloc, settings),
+            stepped: 0,
         }
     }
-    Ok(again.handled)
+
+    /// One turn more.
+    pub fn take(&mut self, alloc: Global, event: &Event, batch: &Batch) -> Result<(), AllocError>
+        requires { HasRoom self.old }
+        ensures room { IfOk result (λ u. HasRoom self.new) }
+        ensures handled { IfOk result (λ u. (terms : LoginTerms) (p : ℕ) (h : law.History)
+            → IsHandled terms p h self.old
+            → IsHandled terms p (kept_turn event.now (batch_seen batch.now) ∷ h) self.new) }
+    {
+        if self.stepped < MOST_EVENTS {
+            self.again.step(alloc, self.port, event, batch)?;
+            self.stepped += 1;
+        }
+        Ok(())
+    }
+
+    /// What the session delivered, the oldest first.
+    pub fn into_handled(self) -> Vec<Outbound>
+        ensures { result.items ≡ heard_on self }
+    {
+        self.again.handled
+    }
 }

@@ -1,16 +1,20 @@
 //! The orders that were accepted, each with its first token, by the reports of the batches alone.
 
-ghost use Rattle.std.specs.Prelude.{◌≡◌, ◌<◌, ◌+◌, ◌∷◌, ◌++◌, [], IfOk, OnOk, IsErrOf, List, map, reverse};
+ghost use Rattle.std.specs.Prelude.{◌≡◌, ◌<◌, ◌+◌, ◌∷◌, ◌++◌, [], IfOk, IsErrOf, List, map, reverse};
 ghost use Rattle.std.specs.Result.{OkIff};
 ghost use Rattle.order_law.specs.tokens.TokenText.{HasToken};
 ghost use Rattle.order_law.specs.Verdicts.{last_token};
+ghost use Rattle.gate_events.specs.Seen.{batch_seen};
+ghost use Rattle.gate_journal.specs.Kept.{turns};
 ghost use Rattle.gate_audit.specs.Counted.{IsOf};
 ghost use Rattle.gate_audit.specs.Pairs as read;
 ghost use Rattle.gate_audit.specs.Pairs.{SaidToClient, said_to};
+ghost use Rattle.gate_audit.specs.Passes.{told_more, told_whole};
 
 use crate::opening::Opening;
 use crate::reports::{first_byte, gives_token, opens_order, text};
 use gate_core::{Batch, IssuedReport};
+use gate_journal::History;
 use gate_law::{Fields, Text};
 use order_accounts::ReadingFault;
 use order_law::Token;
@@ -26,12 +30,25 @@ pub struct Openings {
 
 impl Openings {
     /// Before any report.
-    fn new(alloc: Global) -> Openings
+    pub fn new(alloc: Global) -> Openings
         ensures { IsOf [] result }
     {
         Openings {
             given: 0,
             orders: Vec::new(alloc),
+        }
+    }
+
+    /// What a batch told. `TooLarge` where it gives more tokens than there are, or else `NoMemory`.
+    pub fn take(&mut self, alloc: Global, batch: &Batch) -> Result<(), ReadingFault>
+        ensures all { IfOk result (λ u. (all : List SaidToClient) → IsOf all self.old
+            → IsOf (told_more (batch_seen batch.now) all) self.new) }
+        ensures large { (all : List SaidToClient) → IsOf all self.old → IsErrOf result ReadingFault.TooLarge
+            → read.HasTokenNumbers (told_more (batch_seen batch.now) all) → ⊥ }
+    {
+        match batch.client {
+            Some(client) => self.hear_all(alloc, client.number(), &batch.reports),
+            None => Ok(()),
         }
     }
 
@@ -72,24 +89,22 @@ impl Openings {
     }
 }
 
-/// The orders that the reports of these batches opened, the oldest first, and how many tokens were given.
+/// The orders that the reports of a history opened, the oldest first, and how many tokens were given.
 ///
 /// A token is given with each new order and each replace that is accepted, of whichever client. `TooLarge` where more
 /// were given than there are, or else `NoMemory`.
 ///
 /// Source: FIX 4.4 Volume 6, "ExecType"; OUCH 4.2, "Enter Order Message".
-pub fn openings_of(alloc: Global, batches: &[Batch]) -> Result<Openings, ReadingFault>
-    ensures opened { IfOk result (λ openings. openings.orders.items
-        ≡ reverse (read.opened_orders (reverse (read.said_by_batches batches.now)))) }
-    ensures tokens { OnOk result (read.HasTokenNumbers (reverse (read.said_by_batches batches.now))) }
+pub fn openings_of(alloc: Global, history: &History) -> Result<Openings, ReadingFault>
+    ensures opened { IfOk result (IsOf (told_whole (turns history.now))) }
     ensures large { IsErrOf result ReadingFault.TooLarge
-        → read.HasTokenNumbers (reverse (read.said_by_batches batches.now)) → ⊥ }
+        → read.HasTokenNumbers (told_whole (turns history.now)) → ⊥ }
 {
     let mut openings = Openings::new(alloc);
-    for batch in batches {
-        if let Some(client) = batch.client {
-            openings.hear_all(alloc, client.number(), &batch.reports)?;
-        }
+    let mut ahead = history.turns();
+    while let Some((_, batch, behind)) = ahead.split_first(alloc)? {
+        openings.take(alloc, &batch)?;
+        ahead = behind;
     }
     Ok(openings)
 }

@@ -1,31 +1,25 @@
 //! The audit: each accepted order by both of its accounts.
 
-ghost use Rattle.std.specs.Prelude.{◌≡◌, ◌≤◌, ◌++◌, List, IfOk, OnOk, IsErrOf, length, map, reverse};
+ghost use Rattle.std.specs.Prelude.{◌≡◌, ◌≤◌, ◌++◌, IfOk, OnOk, IsErrOf, length, map};
+ghost use Rattle.order_law.specs.Reading.{account_read};
 ghost use Rattle.gate_law.specs.Holds.{Holds};
-ghost use Rattle.gate_law.specs.Settings.{port_of, port_terms};
-ghost use Rattle.order_accounts.specs.Held.{StaysHeld};
-ghost use Rattle.gate_law.specs.fix_fields.Field.{Message};
-ghost use Rattle.order_shelves.specs.Shelved.{HasReports};
-ghost use Rattle.gate_core.specs.Core as core;
 ghost use Rattle.gate_journal.specs.Kept.{turns};
-ghost use Rattle.gate_audit.specs.Again.{called_again};
 ghost use Rattle.gate_audit.specs.Pairs as read;
-ghost use Rattle.gate_audit.specs.Read.{accepted_new_orders};
+ghost use Rattle.gate_audit.specs.Passes.{pairs_with, unread_order};
+ghost use Rattle.gate_audit.specs.Read.{accepted_new_orders, for_clients};
 
-use crate::messages::handled_in;
+use crate::accounts::read_all;
+use crate::first_pass::{FirstPass, first_pass};
+use crate::lives::lives_of;
 use crate::opening::Opening;
-use crate::openings::openings_of;
 use crate::order_pair::OrderPair;
-use crate::reports::shelved_reports;
-use gate_core::{Batch, ClientNumber, Event, PortNumber, Settings};
+use crate::order_reading::OrderReading;
+use gate_core::Settings;
 use gate_journal::History;
-use order_accounts::{ReadingFault, life_of, reading_of};
+use gate_law::Text;
+use order_accounts::{Reading, ReadingFault};
 use order_law::Account;
-use order_shelves::{MessageShelves, ReportShelves};
-use std::alloc::Global;
-
-/// Shelves for the messages of a port: of more tokens than these several may lead to one shelf.
-const MOST_SHELVES: u64 = 1 << 32;
+use std::alloc::{AllocError, Global};
 
 /// Each order that was accepted by both of its accounts, by client and then in the order of acceptance, which is that
 /// of OrderIDs: what its client read of it, from the reports of the batches alone, and what the market said of it,
@@ -35,8 +29,9 @@ const MOST_SHELVES: u64 = 1 << 32;
 /// after one of its client's reports, what was read of an order has a number that is larger than its integer holds,
 /// or more tokens were given than there are; or else `NoMemory`.
 ///
-/// It takes as long as there are events and orders, times how many clients there are: what is read of an order is
-/// looked for on its shelf (`order_shelves`).
+/// The history is gone through twice: for the orders and the messages of all ports, and for what was read. Never more
+/// than one turn of it is in memory. An order is found by its OrderID, and the messages on it by its first token
+/// (`order_shelves`).
 ///
 /// Source: FIX 4.4 Volume 4, "Execution Report"; OUCH 4.2, "Outbound Messages".
 pub fn audit(
@@ -53,100 +48,87 @@ pub fn audit(
         → read.HasTokenNumbers (read.said_to_clients (turns history.now)) → ⊥ }
     ensures ascending { IfOk result (λ list. read.AreByOrder (accepted_new_orders settings.now (turns history.now))) }
 {
-    let events = history.events(alloc)?;
-    let batches = history.batches(alloc)?;
-    pairs_in(alloc, events.as_slice(), batches.as_slice(), settings)
+    let FirstPass { openings, ports } = first_pass(alloc, history, settings)?;
+    let said = lives_of(alloc, settings, &openings, ports)?;
+    let clients = settings.clients().len();
+    let orders = unread_orders(alloc, clients, openings.orders.as_slice())?;
+    let read = read_all(alloc, history, orders)?;
+    paired(alloc, read.as_slice(), said.as_slice())
 }
 
-/// The same of events with their batches.
-fn pairs_in(
+/// The orders of so many clients, by client and then in the order of acceptance, of which nothing was read.
+fn unread_orders(
     alloc: Global,
-    events: &[Event],
-    batches: &[Batch],
-    settings: &Settings,
-) -> Result<Vec<OrderPair>, ReadingFault>
-    requires count { length batches.now ≡ length events.now }
-    ensures read { IfOk result (λ list. list.items
-        ≡ read.pairs settings.now (core.history events.now batches.now)) }
-    ensures run { IfOk result (λ list. Holds settings.now (core.history events.now batches.now)
-        → list.items ≡ read.accepted_pairs settings.now (core.history events.now batches.now)) }
-    ensures held { OnOk result (read.AllHeld settings.now (core.history events.now batches.now)
-        × read.HasTokenNumbers (read.said_to_clients (core.history events.now batches.now))) }
-    ensures large { IsErrOf result ReadingFault.TooLarge
-        → read.AllHeld settings.now (core.history events.now batches.now)
-        → read.HasTokenNumbers (read.said_to_clients (core.history events.now batches.now)) → ⊥ }
+    clients: usize,
+    openings: &[Opening],
+) -> Result<Vec<OrderReading>, AllocError>
+    requires { clients ≤ 64 }
+    ensures { IfOk result (λ orders. orders.items
+        ≡ for_clients (λ c. map unread_order (read.orders_of c openings.now)) clients) }
 {
-    let openings = openings_of(alloc, batches)?;
-    let tokens = openings.given.min(MOST_SHELVES) as usize;
-    let mut pairs = Vec::new(alloc);
-    for place in 0..settings.clients().len() {
-        let client = (place + 1) as u16;
-        let number = ClientNumber::at_place(place);
-        let count = openings.orders.len();
-        let reports = shelved_reports(alloc, number, batches, count)?;
-        let own = &settings.clients()[place];
-        let port = PortNumber::new(own.terms.port);
-        let heard = handled_in(alloc, events, batches, settings, port)?;
-        let handled = MessageShelves::of(alloc, heard, tokens + 1)?;
-        pair_all(
-            alloc,
-            client,
-            &openings.orders,
-            &reports,
-            &handled,
-            &mut pairs,
-        )?;
+    let mut orders = Vec::with_capacity(alloc, openings.len())?;
+    for place in 0..clients {
+        push_unread(alloc, (place + 1) as u16, openings, &mut orders)?;
     }
-    Ok(pairs)
+    Ok(orders)
 }
 
-/// The orders of a client that was told these reports and whose port handled these messages, behind the pairs before.
-fn pair_all(
+/// A client's orders, behind those before, of which nothing was read.
+fn push_unread(
     alloc: Global,
     client: u16,
     openings: &[Opening],
-    reports: &ReportShelves,
-    handled: &MessageShelves,
-    pairs: &mut Vec<OrderPair>,
-) -> Result<(), ReadingFault>
-    ensures paired { IfOk result (λ u. (sent : List Message) → HasReports sent reports.now → pairs.new.items
-        ≡ pairs.old.items ++ map (read.pair_in (reverse sent) (reverse handled.now))
-        (read.orders_of client openings.now)) }
-    ensures held { OnOk result ((sent : List Message) → HasReports sent reports.now
-        → read.AreHeld (reverse sent) (read.orders_of client openings.now)) }
-    ensures large { IsErrOf result ReadingFault.TooLarge → (sent : List Message) → HasReports sent reports.now
-        → read.AreHeld (reverse sent) (read.orders_of client openings.now) → ⊥ }
+    orders: &mut Vec<OrderReading>,
+) -> Result<(), AllocError>
+    ensures { IfOk result (λ u. orders.new.items ≡ orders.old.items
+        ++ map unread_order (read.orders_of client openings.now)) }
 {
     for opening in openings {
         if opening.client == client {
-            pairs.push(pair_of(alloc, opening, reports, handled)?)?;
+            orders.push(unread(alloc, opening)?)?;
         }
     }
     Ok(())
 }
 
-/// An order by both of its accounts: its client was told these reports, and its port handled these messages.
-fn pair_of(
-    alloc: Global,
-    opening: &Opening,
-    reports: &ReportShelves,
-    handled: &MessageShelves,
-) -> Result<OrderPair, ReadingFault>
-    ensures paired { IfOk result (λ pair. (sent : List Message) → HasReports sent reports.now
-        → pair ≡ read.pair_in (reverse sent) (reverse handled.now) opening.now) }
-    ensures held { OnOk result ((sent : List Message) → HasReports sent reports.now
-        → StaysHeld opening.now.order (reverse sent)) }
-    ensures large { IsErrOf result ReadingFault.TooLarge → (sent : List Message) → HasReports sent reports.now
-        → StaysHeld opening.now.order (reverse sent) → ⊥ }
+/// An order of which nothing was read.
+fn unread(alloc: Global, opening: &Opening) -> Result<OrderReading, AllocError>
+    ensures { IfOk result (λ order. order ≡ unread_order opening.now) }
 {
-    let order = opening.order.as_slice();
-    let reading = reading_of(alloc, order, reports.on(order))?;
-    let root = opening.root.bytes();
-    let life = life_of(alloc, &root, opening.side, handled.on(&root))?;
-    let (fix, ouch) = (reading.account(), life.account());
-    Ok(OrderPair {
+    Ok(OrderReading {
         client: opening.client,
-        id: Vec::from_slice(alloc, opening.id.as_slice())?,
+        order: Text::copied(alloc, opening.order.as_slice())?,
+        id: Text::copied(alloc, opening.id.as_slice())?,
+        reading: Reading::unread(alloc),
+    })
+}
+
+/// Orders as their clients read them, each with what the market said of it.
+fn paired(
+    alloc: Global,
+    orders: &[OrderReading],
+    said: &[Account],
+) -> Result<Vec<OrderPair>, ReadingFault>
+    requires { length orders.now ≡ length said.now }
+    ensures pairs { IfOk result (λ pairs. pairs.items ≡ pairs_with orders.now said.now) }
+    ensures memory { IsErrOf result ReadingFault.TooLarge → ⊥ }
+{
+    let mut pairs = Vec::with_capacity(alloc, orders.len())?;
+    for i in 0..orders.len() {
+        pairs.push(pair_of(alloc, &orders[i], said[i])?)?;
+    }
+    Ok(pairs)
+}
+
+/// An order as its client read it, with what the market said of it.
+fn pair_of(alloc: Global, order: &OrderReading, ouch: Account) -> Result<OrderPair, AllocError>
+    ensures { IfOk result (λ pair. pair
+        ≡ read.paired order.now.client order.now.id (account_read order.now.reading) ouch) }
+{
+    let fix = order.reading.account();
+    Ok(OrderPair {
+        client: order.client,
+        id: Vec::from_slice(alloc, order.id.as_slice())?,
         fix,
         ouch,
         agree: is_same(fix, ouch),

@@ -86,8 +86,7 @@ fn books_of(
     ensures { IfOk result (λ books. (x : World) → IsAsWorld settings.now x world.now
         → books.items ≡ played.books settings.now x) }
 {
-    let batches = world.history().batches(alloc)?;
-    let openings = openings_of(alloc, batches.as_slice())?;
+    let openings = openings_of(alloc, world.history())?;
     let mut books = Vec::new(alloc);
     for place in 0..settings.clients().len() {
         let client = (place + 1) as u16;

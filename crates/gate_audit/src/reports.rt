@@ -1,96 +1,12 @@
-//! The reports that a client was told, as the batches have them.
+//! What reports say.
 
-ghost use Rattle.std.specs.Prelude.{◌≡◌, ◌++◌, List, IfOk, map, slice_index};
-ghost use Rattle.gate_law.specs.fix_fields.Field.{IsValue, Message};
+ghost use Rattle.std.specs.Prelude.{◌≡◌, slice_index};
+ghost use Rattle.gate_law.specs.fix_fields.Field.{IsValue};
 ghost use Rattle.gate_law.specs.fix_fields.Field as tags;
-ghost use Rattle.gate_events.specs.Seen.{batch_seen};
-ghost use Rattle.order_shelves.specs.Shelved.{HasReports};
 ghost use Rattle.gate_audit.specs.Pairs as pairs;
-ghost use Rattle.gate_audit.specs.Read.{opens_new_order, reports_to, told_by_batch};
+ghost use Rattle.gate_audit.specs.Read.{opens_new_order};
 
-use gate_core::{Batch, ClientNumber, IssuedReport};
 use gate_law::Fields;
-use order_shelves::ReportShelves;
-use std::alloc::{AllocError, Global};
-
-/// The reports and rejects that a client was told by these batches, copied, in order.
-pub fn reports_of(
-    alloc: Global,
-    client: ClientNumber,
-    batches: &[Batch],
-) -> Result<Vec<Fields>, AllocError>
-    ensures { IfOk result (λ reports. reports.items ≡ reports_to client batches.now) }
-{
-    let mut reports = Vec::new(alloc);
-    for batch in batches {
-        if batch.names_client(client) {
-            copy_reports(alloc, &batch.reports, &mut reports)?;
-        }
-    }
-    Ok(reports)
-}
-
-/// These reports stand behind those before, copied.
-fn copy_reports(
-    alloc: Global,
-    reports: &[IssuedReport],
-    to: &mut Vec<Fields>,
-) -> Result<(), AllocError>
-    ensures { IfOk result (λ u. to.new.items ≡ to.old.items ++ reports.now) }
-{
-    for report in reports {
-        to.push(report.to_fields(alloc)?)?;
-    }
-    Ok(())
-}
-
-/// The same reports on so many shelves.
-pub fn shelved_reports(
-    alloc: Global,
-    client: ClientNumber,
-    batches: &[Batch],
-    count: usize,
-) -> Result<ReportShelves, AllocError>
-    ensures { IfOk result (HasReports (reports_to client batches.now)) }
-{
-    let mut shelves = ReportShelves::new(alloc, count)?;
-    for batch in batches {
-        shelve_batch(alloc, client, batch, &mut shelves)?;
-    }
-    Ok(shelves)
-}
-
-/// What a batch told a client stands on shelves too, behind what stood there before, copied.
-fn shelve_batch(
-    alloc: Global,
-    client: ClientNumber,
-    batch: &Batch,
-    to: &mut ReportShelves,
-) -> Result<(), AllocError>
-    ensures { IfOk result (λ u. (sent : List Message) → HasReports sent to.old
-        → HasReports (sent ++ told_by_batch client batch.now) to.new) }
-{
-    if batch.names_client(client) {
-        shelve_reports(alloc, &batch.reports, to)
-    } else {
-        Ok(())
-    }
-}
-
-/// These reports stand on shelves too, behind those before, copied.
-fn shelve_reports(
-    alloc: Global,
-    reports: &[IssuedReport],
-    to: &mut ReportShelves,
-) -> Result<(), AllocError>
-    ensures { IfOk result (λ u. (sent : List Message) → HasReports sent to.old
-        → HasReports (sent ++ reports.now) to.new) }
-{
-    for report in reports {
-        to.put(report.to_fields(alloc)?)?;
-    }
-    Ok(())
-}
 
 /// The value of a tag, or no bytes where there is none.
 pub fn text(report: &Fields, tag: u32) -> &[u8]

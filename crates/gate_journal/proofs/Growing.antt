@@ -1,5 +1,5 @@
 -- A day with one event more.
-use Rattle.std.proofs.Common.{◌≡◌, ℕ, ◌+◌, true, false, Bool, None, List, [], ◌∷◌, ◌++◌, length, refl, ap, ◌∙◌, arith}
+use Rattle.std.proofs.Common.{◌≡◌, ℕ, true, false, Bool, None, List, [], ◌∷◌, ◌++◌, length, refl, ap, ◌∙◌, arith}
 use Rattle.std.proofs.lemmas.Bool.Decides.{nat_tests}
 use Rattle.std.specs.Prelude.{◌==◌, not, Result, Ok, Err, OnErr, if◌then◌else◌}
 use Rattle.gate_law.specs.Events.{Batch, History}
@@ -45,7 +45,7 @@ batches-pushed pages e b day is = ap batches_in (listed pages e b day is) ∙ mo
 
 -- ---- as many batches as events
 
-zero-is : (n : ℕ) → not (n == 0) ≡ true → (n == 0) ≡ false
+pub zero-is : (n : ℕ) → not (n == 0) ≡ true → (n == 0) ≡ false
 zero-is n e = grind (arith, nat_tests)
 
 none-each : (b : Bool) (es : List Event) → length (with_event (if b then None else None) es) ≡ length es

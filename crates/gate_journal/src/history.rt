@@ -10,6 +10,7 @@ ghost use Rattle.journal_records.specs.journal_days.Day as spec;
 ghost use Rattle.journal_records.specs.journal_days.Day.{version_of};
 ghost use Rattle.journal_records.specs.Parts.{turn_records};
 
+use crate::turns::Turns;
 use gate_events::{Batch, Event, Recipient, Source, Told, told_lists};
 use journal_pages::PageFault;
 use journal_records::{
@@ -40,6 +41,7 @@ impl Model for History {
 
 impl History {
     ghost use Rattle.gate_journal.specs.Kept.{IsRead, kept_in, nothing_kept, kept_turn, turns};
+    ghost use Rattle.gate_journal.specs.Left.{batches_left, events_left};
     ghost use Rattle.journal_records.specs.journal_days.Day.{day_fault};
 
     /// No events, and no pages. Takes no memory.
@@ -85,6 +87,14 @@ impl History {
     {
         let batches = batches_of(alloc, DayRecords::of(Version::Two, self.pages.as_slice()))?;
         Ok(batches)
+    }
+
+    /// Its turns, to be read one by one: each event with its batch, in order. Takes no memory.
+    pub fn turns(&self) -> Turns<'_>
+        ensures events { events_left result ≡ self.now.events }
+        ensures batches { batches_left result ≡ self.now.batches }
+    {
+        Turns::of(self.pages.as_slice())
     }
 
     /// The events of one source, in order, read from the pages.

@@ -5,9 +5,11 @@
 #![tactic(auto)]
 
 mod history;
+mod turns;
 
 pub use gate_events::{Batch, ClientNumber, Event, LinkOut, PortNumber, Recipient, Source, Told};
 pub use history::History;
 pub use journal_pages::{PageFault, Version};
 pub use short_list::ShortList;
 pub use soup_session::PortFault;
+pub use turns::Turns;

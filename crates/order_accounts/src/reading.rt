@@ -6,7 +6,7 @@ ghost use Rattle.std.specs.Prelude.{◌≡◌, ◌<◌, ◌+◌, ◌-◌, ◌*�
 ghost use Rattle.std.specs.Prelude.{IfOk, OnOk, IsErrOf, reverse, codes, bytes_eq, Some, None};
 ghost use Rattle.std.specs.List.{find};
 ghost use Rattle.std.specs.Option.{option_copied};
-ghost use Rattle.order_accounts.specs.Held.{IsHeld, StaysHeld};
+ghost use Rattle.order_accounts.specs.Held.{IsHeld, StaysHeld, heard_on};
 ghost use Rattle.order_law.specs.fix_fields.Field as tags;
 ghost use Rattle.order_law.specs.Messages as messages;
 ghost use Rattle.order_law.specs.Reading as spec;
@@ -98,8 +98,8 @@ impl Reading {
         }
     }
 
-    /// What is read before any report.
-    fn unread(alloc: Global) -> Reading
+    /// What is read before any report. Takes no memory.
+    pub fn unread(alloc: Global) -> Reading
         ensures nothing { result ≡ spec.unread }
         ensures held { IsHeld result }
     {
@@ -240,6 +240,29 @@ impl Reading {
             self.is_closed = true;
         }
         self.restate(report)
+    }
+
+    /// What one report more makes of what was read of the order with this OrderID: a message that isn't a report on
+    /// the order changes nothing. `TooLarge` just where what is read has a number that is larger than its integer
+    /// holds; or else `NoMemory`. After an error nothing is said of what was read.
+    ///
+    /// Source: FIX 4.4 Volume 4, "Execution Report".
+    pub fn hear_on(
+        &mut self,
+        alloc: Global,
+        order: &[u8],
+        report: &Fields,
+    ) -> Result<(), ReadingFault>
+        ensures told { OnOk result (self.new ≡ heard_on order.now self.old report.now) }
+        ensures held { OnOk result (IsHeld self.new) }
+        ensures large { IsErrOf result ReadingFault.TooLarge → IsHeld (heard_on order.now self.old report.now) → ⊥ }
+    {
+        // known of it: integers hold what was read
+        let _ = &self.side;
+        if is_report_on(report, order) {
+            self.hear(alloc, report)?;
+        }
+        Ok(())
     }
 }
 

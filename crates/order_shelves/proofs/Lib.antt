@@ -1,4 +1,4 @@
 mod Placing
-mod Shelving
-mod ReadAlike
+pub mod Shelving
+mod Ordering
 mod LivedAlike

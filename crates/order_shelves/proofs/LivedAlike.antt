@@ -1,6 +1,6 @@
 -- What the market said of an order goes by the messages on its shelf.
-use Rattle.std.proofs.Common.{◌≡◌, ◌<◌, ◌+◌, ◌-◌, ◌*◌, ℕ, Bool, true, false, List, [], ◌∷◌, ◌++◌, length, reverse}
-use Rattle.std.proofs.Common.{get_or, refl, sym, ap, ◌∙◌, subst, eqb-true, eq-eqb, Option, Some, None, inl, inr}
+use Rattle.std.proofs.Common.{◌≡◌, ◌<◌, ◌+◌, ◌-◌, ◌*◌, ℕ, Bool, true, false, List, [], ◌∷◌, length, reverse}
+use Rattle.std.proofs.Common.{get_or, refl, sym, ap, arith, ◌∙◌, subst, eqb-true, eq-eqb, Option, Some, None, inl, inr}
 use Rattle.std.specs.Prelude.{◌==◌, ◌&&◌, ◌⊎◌, filter, if◌then◌else◌, bytes_eq}
 use Rattle.std.specs.List.{find, list_all, list_any}
 use Rattle.std.specs.Cmp.Lexicographic.{bytes_decides}
@@ -9,14 +9,13 @@ use Rattle.std.proofs.lemmas.List.{reverse-append}
 use Rattle.std.proofs.lemmas.List.Folds.{list_all-append}
 use Rattle.order_accounts.specs.ouch_codec.declared.outbound.Outbound.{Outbound}
 use Rattle.order_accounts.specs.ouch_codec.declared.outbound.Outbound.TheVariants as market
-use Rattle.order_accounts.specs.ouch_codec.Tokens.{order_token}
 use Rattle.order_accounts.specs.order_law.declared.stage.Stage.TheVariants.{Closed}
 use Rattle.order_accounts.specs.order_law.declared.trade.Trade.{Trade}
 use Rattle.order_accounts.specs.order_law.Life.{Life, after, broken, decreased, first_token, is_dead, is_live, is_of}
 use Rattle.order_accounts.specs.order_law.Life.{is_waiting, life, opened, settled, stands_as, traded}
 use Rattle.order_shelves.specs.Places.{lead}
-use Rattle.order_shelves.specs.Shelved.{HasMessages, message_at, stays}
-use Rattle.order_shelves.proofs.Shelving.{filter-reverse}
+use Rattle.order_shelves.specs.Shelved.{AreBelow, HasMessages, message_at, picked, stays}
+use Rattle.order_shelves.proofs.Shelving.{filter-reverse, picked-places, places-below}
 
 -- ---- the tokens that a message leaves
 
@@ -198,13 +197,22 @@ all-reversed p (x ∷ xs) all =
     ap (list_all p) (reverse-append (x ∷ []) xs)
     ∙ (list_all-append p (reverse xs) (x ∷ []) ∙ rw (all-reversed p xs parts.1, parts.0) refl)
 
-pub on-shelf : (leads : List ℕ) (heard : List Outbound) (shelves : List (List Outbound)) (root : List ℕ) (side : ℕ)
+-- the messages that stand at the places on its shelf
+pub on-shelf : (leads : List ℕ) (heard : List Outbound) (shelves : List (List ℕ)) (root : List ℕ) (side : ℕ)
     → lead leads root < length leads → HasMessages leads heard shelves
-    → life root side (reverse (get_or shelves (lead leads root) [])) ≡ life root side (reverse heard)
+    → life root side (reverse (picked heard (get_or shelves (lead leads root) []))) ≡ life root side (reverse heard)
 on-shelf leads heard shelves root side inside has =
     let within : lead leads root < length shelves = subst (λ (n : ℕ). lead leads root < n) (sym has.same) inside in
-    let is : reverse (get_or shelves (lead leads root) [])
+    let is : reverse (picked heard (get_or shelves (lead leads root) []))
     ≡ filter (message_at leads (lead leads root)) (reverse heard) =
-    ap reverse (has.shelved (lead leads root) within) ∙ sym (filter-reverse (message_at leads (lead leads root)) heard)
-    in
+    ap (λ (ks : List ℕ). reverse (picked heard ks)) (has.shelved (lead leads root) within)
+    ∙ (ap reverse (picked-places (message_at leads (lead leads root)) heard)
+    ∙ sym (filter-reverse (message_at leads (lead leads root)) heard)) in
     ap (life root side) is ∙ (alike leads root side (reverse heard) (all-reversed (stays leads) heard has.stay)).same
+
+pub shelf-below : (leads : List ℕ) (heard : List Outbound) (shelves : List (List ℕ)) (k : ℕ) → k < length leads
+    → HasMessages leads heard shelves → AreBelow (length heard) (get_or shelves k [])
+shelf-below leads heard shelves k inside has =
+    let within : k < length shelves = subst (λ (n : ℕ). k < n) (sym has.same) inside in
+    subst (AreBelow (length heard)) (sym (has.shelved k within))
+    (places-below (message_at leads k) 0 (length heard) heard (omega arith))

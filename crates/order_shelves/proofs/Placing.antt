@@ -1,5 +1,5 @@
 -- Places by the numbers that digits write.
-use Rattle.std.proofs.Common.{◌≡◌, ◌<◌, ◌%◌, ◌^◌, ℕ, true, false, List, Option, Some, None, refl, ap, subst}
+use Rattle.std.proofs.Common.{◌≡◌, ◌%◌, ◌^◌, ℕ, true, false, List, Option, Some, None, refl, ap, subst}
 use Rattle.std.specs.Prelude.{SomeIff, nat_lt}
 use Rattle.std.specs.Char.{is_ascii_digit}
 use Rattle.std.specs.List.{list_all}

@@ -1,5 +1,3 @@
 pub mod Places
 pub mod Shelved
 pub use Rattle.order_accounts.specs.order_law.Life
-pub use Rattle.order_accounts.specs.order_law.Reading
-pub use Rattle.order_accounts.specs.Held

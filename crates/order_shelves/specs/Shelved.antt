@@ -1,34 +1,46 @@
--- Items on shelves: which stand where, and what that leaves to be read of an order.
-use Rattle.std.specs.Prelude.{◌≡◌, ◌≤◌, ◌<◌, ◌==◌, ℕ, Bool, true, false, List, [], Option, Some, None, filter, get_or}
-use Rattle.std.specs.Prelude.{length}
+-- Items on shelves by their places: which stand where, and what that leaves to be read of an order.
+use Rattle.std.specs.Prelude.{◌≡◌, ◌≤◌, ◌<◌, ◌==◌, ℕ, suc, Bool, true, false, List, [], ◌∷◌, ◌++◌, Option, Some, None}
+use Rattle.std.specs.Prelude.{drop, get_or, length, take, if◌then◌else◌}
 use Rattle.std.specs.List.{list_all}
 use Rattle.order_accounts.specs.ouch_codec.declared.outbound.Outbound.{Outbound}
 use Rattle.order_accounts.specs.ouch_codec.declared.outbound.Outbound.TheVariants as market
 use Rattle.order_accounts.specs.ouch_codec.Tokens.{order_token}
-use Rattle.fix_fields.specs.Field.{Message, text}
-use Rattle.order_accounts.specs.order_law.Reading.{reading}
-use Rattle.order_accounts.specs.Held.{StaysHeld}
 use Rattle.order_shelves.specs.Places.{lead, place}
 
--- on each shelf stand just the items that belong there, in their order
-abbrev pub AreShelved : {X : Type 0} → (ℕ → X → Bool) → List X → List (List X) → Type 0
-AreShelved at items shelves = (i : ℕ) → i < length shelves → get_or shelves i [] ≡ filter (at i) items
+-- the places of the items that pass a test, where the first one stands at this place
+abbrev pub places_of : {X : Type 0} → (X → Bool) → ℕ → List X → List ℕ
+places_of p k [] = []
+places_of p k (x ∷ xs) = if p x then k ∷ places_of p (suc k) xs else places_of p (suc k) xs
 
--- ---- reports, by OrderID (37)
+-- on each shelf stand the places of just the items that belong there, in their order
+abbrev pub AreShelved : {X : Type 0} → (ℕ → X → Bool) → List X → List (List ℕ) → Type 0
+AreShelved at items shelves = (i : ℕ) → i < length shelves → get_or shelves i [] ≡ places_of (at i) 0 items
 
-abbrev pub report_at : ℕ → ℕ → Message → Bool
-report_at count i r = place count (text 37 r) == i
+-- what stands at these places
+abbrev pub picked : {X : Type 0} → List X → List ℕ → List X
+picked items [] = []
+picked items (k ∷ ks) = take 1 (drop k items) ++ picked items ks
 
--- these reports stand on shelves
-pub record HasReports (sent : List Message) (shelves : List (List Message)) : Type 0 where
+-- places of so many items
+abbrev pub AreBelow : ℕ → List ℕ → Type 0
+AreBelow n [] = Unit {0}
+AreBelow n (k ∷ ks) = (k < n) × AreBelow n ks
+
+-- ---- orders, by OrderID (37)
+
+abbrev pub order_at : ℕ → ℕ → List ℕ → Bool
+order_at count i order = place count order == i
+
+-- the places of these orders stand on shelves
+pub record HasOrders (orders : List (List ℕ)) (shelves : List (List ℕ)) : Type 0 where
   pub some : 1 ≤ length shelves
-  pub shelved : AreShelved (report_at (length shelves)) sent shelves
+  pub shelved : AreShelved (order_at (length shelves)) orders shelves
 
--- what is read of an order in some reports is what is read of it in others, both the newest first
-pub record IsReadAlike (order : List ℕ) (near sent : List Message) : Type 0 where
-  pub reading : reading order near ≡ reading order sent
-  pub held : StaysHeld order near → StaysHeld order sent
-  pub back : StaysHeld order sent → StaysHeld order near
+-- these are the places of some of the orders: of all that have this OrderID, and maybe of others
+pub record IsNear (order : List ℕ) (orders : List (List ℕ)) (near : List ℕ) : Type 0 where
+  pub is_near : List ℕ → Bool
+  pub own : is_near order ≡ true
+  pub places : near ≡ places_of is_near 0 orders
 
 -- ---- messages of the market, by where their tokens lead
 
@@ -45,7 +57,7 @@ stays leads (market.Replaced m) = lead leads m.token == lead leads m.previous_to
 stays leads other = true
 
 -- these messages stand on shelves, each chain of tokens on one
-pub record HasMessages (leads : List ℕ) (heard : List Outbound) (shelves : List (List Outbound)) : Type 0 where
+pub record HasMessages (leads : List ℕ) (heard : List Outbound) (shelves : List (List ℕ)) : Type 0 where
   pub same : length shelves ≡ length leads
   pub stay : list_all (stays leads) heard ≡ true
   pub shelved : AreShelved (message_at leads) heard shelves

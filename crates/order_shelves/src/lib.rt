@@ -1,5 +1,5 @@
-//! Reports and messages of the market on shelves, each with those of the orders that may stand there: so that what was
-//! read of an order is found without a look at all others.
+//! Where orders, and messages of the market, stand in their lists, on shelves: so that an order is found by its
+//! OrderID, and the messages on it by its first token, without a look at all others.
 //!
 //! A shelf may have more than one order's. What is read of an order goes by its own reports and messages alone, so what
 //! else stands there changes nothing.
@@ -7,9 +7,9 @@
 
 mod chains;
 mod messages;
+mod orders;
 mod places;
-mod reports;
 mod shelves;
 
 pub use messages::MessageShelves;
-pub use reports::ReportShelves;
+pub use orders::OrderPlaces;

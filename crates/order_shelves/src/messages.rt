@@ -1,23 +1,23 @@
 //! Messages of the market, by where their tokens lead.
 
 ghost use Rattle.std.specs.Prelude.{◌≡◌, ◌++◌, ◌∷◌, [], ℕ, List, true, IfOk, OnOk, length, reverse};
-ghost use Rattle.order_accounts.specs.order_law.Life.{life};
+ghost use Rattle.order_accounts.specs.order_law.Life as spec;
 ghost use Rattle.order_accounts.specs.ouch_codec.declared.outbound.Outbound.{Outbound};
-ghost use Rattle.order_shelves.specs.Shelved.{AreShelved, HasMessages, message_at};
+ghost use Rattle.order_shelves.specs.Shelved.{AreBelow, AreShelved, HasMessages, message_at, picked};
 
 use crate::chains::Chains;
 use crate::shelves::Shelves;
-use order_accounts::Outbound;
+use order_accounts::{Life, Outbound, life_of};
 use std::alloc::{AllocError, Global};
 use std::marker::Model;
 
-/// Messages of the market that were heard on a port, on shelves by where their tokens lead. Contracts see all of them,
-/// the oldest first.
+/// Messages of the market that were heard on a port, their places on shelves by where their tokens lead. Contracts see
+/// all of them, the oldest first.
 #[derive(Drop)]
 pub struct MessageShelves {
     heard: Vec<Outbound>,
     chains: Chains,
-    shelves: Shelves<Outbound>,
+    shelves: Shelves<usize>,
     /// Each chain of tokens leads to one shelf. Else no shelf is used.
     is_whole: bool,
 }
@@ -54,50 +54,62 @@ impl MessageShelves {
         })
     }
 
-    /// Messages of which the order with this first token makes the same life as of all: those on its shelf, or all
-    /// where a chain of tokens leads to several.
+    /// The life that the order with this first token and side has by all of these messages: it is read from those on
+    /// its shelf, or from all where a chain of tokens leads to several.
     ///
     /// Source: OUCH 4.2, "Outbound Messages" (Order Token).
-    pub fn on(&self, root: &[u8; 14]) -> &[Outbound]
-        ensures { (side : ℕ) → life root.now side (reverse result.now) ≡ life root.now side (reverse self.now) }
+    pub fn life(&self, alloc: Global, root: &[u8; 14], side: u8) -> Result<Life, AllocError>
+        ensures { IfOk result (λ life. life ≡ spec.life root.now side (reverse self.now)) }
     {
         if self.is_whole {
-            self.shelves.shelf(self.chains.lead(root))
+            let shelf = self.shelves.shelf(self.chains.lead(root));
+            let near = self.those_at(alloc, shelf)?;
+            life_of(alloc, root, side, near.as_slice())
         } else {
-            self.heard.as_slice()
+            life_of(alloc, root, side, self.heard.as_slice())
         }
+    }
+
+    /// The messages at these places, copied.
+    fn those_at(&self, alloc: Global, places: &[usize]) -> Result<Vec<Outbound>, AllocError>
+        requires { AreBelow (length self.now) places.now }
+        ensures { IfOk result (λ messages. messages.items ≡ picked self.now places.now) }
+    {
+        let mut messages = Vec::new(alloc);
+        for place in places {
+            messages.push(self.heard[*place])?;
+        }
+        Ok(messages)
     }
 }
 
-/// Messages on the shelves that their tokens lead to.
-fn shelved(
-    alloc: Global,
-    chains: &Chains,
-    heard: &[Outbound],
-) -> Result<Shelves<Outbound>, AllocError>
+/// The places of messages on the shelves that their tokens lead to.
+fn shelved(alloc: Global, chains: &Chains, heard: &[Outbound]) -> Result<Shelves<usize>, AllocError>
     ensures same { IfOk result (λ shelves. length shelves ≡ length chains.now) }
     ensures shelved { IfOk result (AreShelved (message_at chains.now) heard.now) }
 {
     let mut shelves = Shelves::new(alloc, chains.count())?;
-    for message in heard {
-        shelve(chains, message, &mut shelves)?;
+    for place in 0..heard.len() {
+        shelve(chains, &heard[place], place, &mut shelves)?;
     }
     Ok(shelves)
 }
 
-/// Puts a message on the shelf that its token leads to; one without a token nowhere.
+/// Puts the place of a message on the shelf that its token leads to; that of one without a token nowhere.
 fn shelve(
     chains: &Chains,
     message: &Outbound,
-    shelves: &mut Shelves<Outbound>,
+    place: usize,
+    shelves: &mut Shelves<usize>,
 ) -> Result<(), AllocError>
     requires { length shelves.old ≡ length chains.now }
     ensures same { OnOk result (length shelves.new ≡ length shelves.old) }
-    ensures put { OnOk result ((heard : List Outbound) → AreShelved (message_at chains.now) heard shelves.old
+    ensures put { OnOk result ((heard : List Outbound) → length heard ≡ place
+        → AreShelved (message_at chains.now) heard shelves.old
         → AreShelved (message_at chains.now) (heard ++ message.now ∷ []) shelves.new) }
 {
     match message.order_token() {
-        Some(token) => shelves.put(chains.lead(token), *message),
+        Some(token) => shelves.put(chains.lead(token), place),
         None => Ok(()),
     }
 }

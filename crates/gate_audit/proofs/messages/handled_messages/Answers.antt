@@ -1,35 +1,24 @@
-use Rattle.std.proofs.Common.{◌≡◌, List, map, reverse, ap, subst, ◌∙◌}
-use Rattle.std.specs.Prelude.{IfOk}
-use Rattle.order_law.specs.History as orders
-use Rattle.gate_law.specs.Settings.{port_terms}
+use Rattle.std.proofs.Common.{rules, ◌≡◌, ◌∙◌, [], ap, sym, arith, length, reverse}
+use Rattle.gate_core.proofs.soup_session.Closes.{ends_by_close}
 use Rattle.gate_law.specs.Events.{History}
-use Rattle.gate_law.specs.After.{order_turns}
-use Rattle.gate_law.specs.Holds.{Holds}
-use Rattle.gate_events.specs.declared.batch.Batch.{Batch}
-use Rattle.gate_events.specs.Seen.{batch_seen}
-use Rattle.gate_core.specs.Core.{history}
+use Rattle.gate_law.specs.Settings.{port_terms}
 use Rattle.gate_journal.specs.Kept.{turns}
-use Rattle.gate_audit.specs.Again.{called_again}
-use Rattle.gate_audit.proofs.Decoded.{same-turns}
+use Rattle.gate_journal.specs.Left.{batches_left, events_left}
+use Rattle.gate_audit.specs.Called.{IsHandled}
+use Rattle.gate_audit.proofs.Calling.{has-of}
+use Rattle.gate_audit.proofs.Following.{handled-again}
+use Rattle.gate_audit.proofs.Passing.{in-the-end}
 use Rattle.gate_audit.proofs.messages.handled_messages.Goals as goal
 
-pub returns-clause-read : goal.returns-clause-read
-returns-clause-read c =
-    let h = c.args.history.now in
-    let terms = port_terms c.args.settings.now c.args.port in
-    let is : history c.as_slice.result.now c.as_slice-2.result.now ≡ turns h =
-    same-turns _ _ h (c.as_slice.ensures.value ∙ c.in_ok-events.ensures.events)
-    (ap (λ (l : List Batch). map batch_seen l) c.as_slice-2.ensures.value ∙ c.in_ok-batches.ensures.batches) in
-    subst (λ (z : History). IfOk c.handled_in.result
-    (λ handled. handled.items ≡ reverse (called_again terms c.args.port z).handled)) is c.handled_in.ensures.read
-
 pub returns-clause-run : goal.returns-clause-run
-returns-clause-run c =
-    let h = c.args.history.now in
+returns-clause-run c holds =
     let s = c.args.settings.now in
-    let is : history c.as_slice.result.now c.as_slice-2.result.now ≡ turns h =
-    same-turns _ _ h (c.as_slice.ensures.value ∙ c.in_ok-events.ensures.events)
-    (ap (λ (l : List Batch). map batch_seen l) c.as_slice-2.ensures.value ∙ c.in_ok-batches.ensures.batches) in
-    subst (λ (z : History). IfOk c.handled_in.result
-    (λ handled. Holds s z → handled.items ≡ reverse (orders.handled c.args.port (order_turns s z)))) is
-    c.handled_in.ensures.run
+    let p = c.args.port in
+    let h : History = turns c.args.history.now in
+    let none : (events_left c.loop-so_far.ahead ≡ []) × (batches_left c.loop-so_far.ahead ≡ []) =
+    search (rules, c.in_ok-event.ensures, c.in_default.is) in
+    (in-the-end (events_left c.loop-so_far.ahead) (batches_left c.loop-so_far.ahead) c.args.history.now
+    (λ seen. IsHandled (port_terms s p) p seen c.loop-so_far.so_far) none.0 c.loop-so_far.invariant.handled).again.handled
+    ∙ ap reverse (sym (handled-again ends_by_close s p
+    (has-of p (length s.ports) (omega (arith, c.number.ensures.value, c.number.ensures.from_one)) c.requires.known)
+    h holds.run))

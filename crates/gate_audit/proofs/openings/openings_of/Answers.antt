@@ -1,21 +1,28 @@
-use Rattle.std.proofs.Common.{rules, ℕ, ◌++◌, List, map, reverse, take, subst, sym}
-use Rattle.gate_law.specs.fix_fields.Field.{Message}
+use Rattle.std.proofs.Common.{rules, ◌≡◌, ◌∷◌}
 use Rattle.std.specs.Prelude.{IsErrOf, Err}
 use Rattle.order_accounts.specs.declared.reading_fault.ReadingFault.{ReadingFault}
 use Rattle.order_accounts.specs.declared.reading_fault.ReadingFault.TheVariants.{TooLarge}
-use Rattle.gate_audit.specs.Pairs.{HasTokenNumbers, SaidToClient, said_by_batches, said_to}
-use Rattle.gate_audit.proofs.Counting.{has-next-batch}
+use Rattle.gate_law.specs.Events.{History}
+use Rattle.gate_events.specs.Seen.{batch_seen}
+use Rattle.gate_journal.specs.Kept.{turns}
+use Rattle.gate_journal.specs.Left.{batches_left, events_left}
+use Rattle.gate_audit.specs.Pairs.{HasTokenNumbers}
+use Rattle.gate_audit.specs.Passes.{told_whole}
+use Rattle.gate_audit.proofs.Counting.{has-behind}
+use Rattle.gate_audit.proofs.Passing.{up-to-next}
 use Rattle.gate_audit.proofs.openings.openings_of.Goals as goal
 
-pub returns-in_err-hear_all-clause-large : goal.returns-in_err-hear_all-clause-large
-returns-in_err-hear_all-clause-large c err has =
-    let before : List SaidToClient = reverse (said_by_batches (take c.loop-batch.batch-index c.args.batches.now)) in
-    let next = has-next-batch c.args.batches.now c.loop-batch.batch-index c.batch-item.result c.in-Some.client
-    c.loop-batch-test.true c.batch-item.is c.in-Some.is has in
-    let own_error : IsErrOf {T = Unit {0}} {E = ReadingFault} (Err c.in_err-hear_all.field-0.0) TooLarge =
-    search (rules, c.from_residual.ensures, err) in
-    c.in_err-hear_all.ensures.large before c.loop-batch.invariant own_error
-    (subst (λ (n : ℕ). HasTokenNumbers (reverse (map (said_to n) c.deref.result.now) ++ before))
-    (sym c.number.ensures.value)
-    (subst (λ (rs : List Message). HasTokenNumbers (reverse (map (said_to c.in-Some.client) rs) ++ before))
-    (sym c.deref.ensures.value) next))
+pub returns-in_err-take-clause-large : goal.returns-in_err-take-clause-large
+returns-in_err-take-clause-large c err has =
+    let seen : History = c.loop-openings.invariant.seen in
+    let next : (events_left c.loop-openings.ahead ≡ c.in-Some.field-0-0 ∷ events_left c.in-Some.behind)
+    × (batches_left c.loop-openings.ahead ≡ batch_seen c.in-Some.batch ∷ batches_left c.in-Some.behind) =
+    search (rules, c.in_ok-batch.ensures, c.in-Some.is) in
+    let own_error : IsErrOf {E = ReadingFault} (Err c.in_err-take.field-0.0) TooLarge =
+    search (rules, c.from_residual-in_err-take.ensures, err) in
+    c.in_err-take.ensures.large (told_whole seen) c.loop-openings.invariant.is own_error
+    (up-to-next HasTokenNumbers has-behind
+    (events_left c.loop-openings.ahead) (events_left c.in-Some.behind)
+    (batches_left c.loop-openings.ahead) (batches_left c.in-Some.behind)
+    c.in-Some.field-0-0 (batch_seen c.in-Some.batch) seen (turns c.args.history.now) next.0 next.1
+    c.loop-openings.invariant.left has)

@@ -1,15 +1,12 @@
-use Rattle.std.proofs.Common.{◌≡◌, ◌<◌, ◌+◌, ◌∙◌, ℕ, List, map, length, reverse, ap, refl, sym, subst, arith, get_or}
+use Rattle.std.proofs.Common.{◌≡◌, ◌<◌, ◌+◌, ◌∙◌, List, length, ap, sym, subst, arith, get_or}
 use Rattle.std.proofs.Common.{true}
 use Rattle.std.specs.List.{All}
 use Rattle.gate_core.specs.gate_settings.Kept.{IsOnPort}
 use Rattle.gate_law.specs.Settings.{ClientSettings, Settings, has_port, port_of}
 use Rattle.order_law.specs.History.{Terms}
-use Rattle.gate_events.specs.declared.batch.Batch.{Batch}
-use Rattle.gate_events.specs.Seen.{batch_seen}
-use Rattle.gate_audit.specs.Pairs as read
+use Rattle.gate_journal.specs.Kept.{turns}
 use Rattle.gate_audit.specs.Played.{books_of}
 use Rattle.gate_audit.specs.Read.{for_clients}
-use Rattle.gate_audit.proofs.Decoded.{same-turns}
 use Rattle.gate_audit.proofs.Pairing.{terms-at}
 use Rattle.gate_audit.proofs.Playing.{books-more, known-port}
 use Rattle.gate_audit.proofs.played.books_of.Goals as goal
@@ -17,7 +14,6 @@ use Rattle.gate_audit.proofs.played.books_of.Goals as goal
 pub loop-place-preserved : goal.loop-place-preserved
 loop-place-preserved c =
     let s : Settings = c.args.settings.now in
-    let bs = c.as_slice.result.now in
     let n = c.loop-place.place in
     let inside : n < length s.clients = omega
     (arith, c.loop-place-test.true, c.loop-place.auto.place-end, ap length c.clients-place-end.ensures.clients) in
@@ -33,13 +29,9 @@ loop-place-preserved c =
     ∙ known-port s ports (n + 1) (omega arith) (omega (arith, inside)) in
     λ x same.
     c.in_ok-push_rows.ensures s x same has
-    ∙ books-more s x n c.own.inside.terms.port c.loop-place.books.items c.as_slice-in-loop-place.result.now
-    c.history.result.now.events bs
-    (ap (λ (l : List Batch). length l) c.as_slice.ensures.value ∙ c.in_ok-batches.ensures.count)
-    (same-turns c.history.result.now.events bs c.history.result.now refl
-    (ap (λ (l : List Batch). map batch_seen l) c.as_slice.ensures.value ∙ c.in_ok-batches.ensures.batches)
-    ∙ c.history.ensures s x same)
-    port (c.as_slice-in-loop-place.ensures.value ∙ c.in_ok-openings.ensures.opened) (c.loop-place.invariant x same)
+    ∙ books-more s x n c.own.inside.terms.port c.loop-place.books.items c.as_slice.result.now
+    (turns c.history.result.now) (c.history.ensures s x same) port
+    (c.as_slice.ensures.value ∙ c.in_ok-openings.ensures.opened.orders) (c.loop-place.invariant x same)
 
 pub returns : goal.returns
 returns c = λ x same.

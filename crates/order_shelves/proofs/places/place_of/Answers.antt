@@ -1,9 +1,3 @@
-use Rattle.std.proofs.Common.{◌≡◌, ◌<◌, true, false, rules}
-use Rattle.std.proofs.lemmas.Bool.{and_from, and_parts, false_from_ne_true, lt-ltb, ltb-true}
-use Rattle.std.specs.Char.{is_ascii_digit}
-use Rattle.std.specs.List.{list_all}
-use Rattle.std.specs.Prelude.{nat_lt}
-use Rattle.decimal_digits.specs.Digits.{number_of}
 use Rattle.order_shelves.proofs.Placing.{placed, unplaced}
 use Rattle.order_shelves.proofs.places.place_of.Goals as goal
 

@@ -1,4 +1,4 @@
-use Rattle.std.proofs.Common.{◌≡◌, ◌%◌, ◌∙◌, ◌<◌, ℕ, List, ap, get_or, length, rules, subst, sym}
+use Rattle.std.proofs.Common.{◌≡◌, ◌%◌, ◌∙◌, ◌<◌, ℕ, List, ap, get_or, length, rules, subst}
 use Rattle.std.proofs.lemmas.List.{get_or_default}
 use Rattle.order_shelves.specs.Places.{digits_of, lead, place}
 use Rattle.order_shelves.proofs.chains.Chains.lead.Goals as goal

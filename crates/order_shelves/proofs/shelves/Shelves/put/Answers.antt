@@ -1,4 +1,3 @@
-use Rattle.std.proofs.Common.{◌≡◌, ◌∙◌, ◌++◌, ◌∷◌, [], List, ap, sym, set, get_or}
 use Rattle.order_shelves.proofs.Shelving.{put-there}
 use Rattle.order_shelves.proofs.shelves.Shelves.put.Goals as goal
 

@@ -1,0 +1,27 @@
+use Rattle.std.proofs.Common.{rules, ◌≡◌, ◌∷◌, List}
+use Rattle.std.specs.Prelude.{IsErrOf, Err}
+use Rattle.order_accounts.specs.declared.reading_fault.ReadingFault.{ReadingFault}
+use Rattle.order_accounts.specs.declared.reading_fault.ReadingFault.TheVariants.{TooLarge}
+use Rattle.gate_events.specs.Seen.{batch_seen}
+use Rattle.gate_journal.specs.Kept.{turns}
+use Rattle.gate_journal.specs.Left.{batches_left, events_left}
+use Rattle.gate_audit.specs.Pairs.{SaidToClient}
+use Rattle.gate_audit.specs.Passes.{StayRead, told_whole}
+use Rattle.gate_audit.proofs.Passing.{up-to-next}
+use Rattle.gate_audit.proofs.Rereading.{read-behind}
+use Rattle.gate_audit.proofs.accounts.read_all.Goals as goal
+
+pub returns-in_err-take-clause-large : goal.returns-in_err-take-clause-large
+returns-in_err-take-clause-large c err os are held =
+    let so_far = c.loop-readings.invariant os are in
+    let next : (events_left c.loop-readings.ahead ≡ c.in-Some.field-0-0 ∷ events_left c.in-Some.behind)
+    × (batches_left c.loop-readings.ahead ≡ batch_seen c.in-Some.batch ∷ batches_left c.in-Some.behind) =
+    search (rules, c.in_ok-batch.ensures, c.in-Some.is) in
+    let own_error : IsErrOf {E = ReadingFault} (Err c.in_err-take.field-0.0) TooLarge =
+    search (rules, c.from_residual-in_err-take.ensures, err) in
+    c.in_err-take.ensures.large os (told_whole so_far.seen) so_far.is own_error
+    (up-to-next (λ (all : List SaidToClient). StayRead all os) (read-behind os)
+    (events_left c.loop-readings.ahead) (events_left c.in-Some.behind)
+    (batches_left c.loop-readings.ahead) (batches_left c.in-Some.behind)
+    c.in-Some.field-0-0 (batch_seen c.in-Some.batch) so_far.seen (turns c.args.history.now) next.0 next.1
+    so_far.left held)

@@ -1,0 +1,48 @@
+//! The turns of a history, read one by one.
+
+ghost use Rattle.std.specs.Prelude.{◌≡◌, ◌∷◌, [], IfOk, MatchOption};
+ghost use Rattle.gate_events.specs.Seen.{batch_seen};
+ghost use Rattle.journal_records.specs.journal_days.Cut.{texts};
+ghost use Rattle.gate_journal.specs.Kept.{kept_in};
+ghost use Rattle.gate_journal.specs.Left.{batches_left, events_left};
+
+use gate_events::{Batch, Event};
+use journal_records::{DayRecords, Version, batch_of, event_of};
+use std::alloc::{AllocError, Global};
+
+/// Turns that are still to be read, the oldest first: events, each with the batch that it gave. They lie in the pages
+/// of a history, and only the one that is read takes memory.
+#[derive(Clone, Copy, Drop)]
+pub struct Turns<'a> {
+    records: DayRecords<'a>,
+}
+
+impl<'a> Turns<'a> {
+    /// All that pages of version 2 say. Takes no memory.
+    pub(crate) fn of(pages: &'a [Vec<u8>]) -> Turns<'a>
+        ensures events { events_left result ≡ (kept_in (texts pages.now)).events }
+        ensures batches { batches_left result ≡ (kept_in (texts pages.now)).batches }
+    {
+        Turns {
+            records: DayRecords::of(Version::Two, pages),
+        }
+    }
+
+    /// The next event, its batch, and the turns behind them; `None` where there is no more.
+    pub fn split_first(self, alloc: Global) -> Result<Option<(Event, Batch, Turns<'a>)>, AllocError>
+        ensures { IfOk result (λ first.
+            MatchOption first ((events_left self.entry ≡ []) × (batches_left self.entry ≡ []))
+            (λ next. (events_left self.entry ≡ next.0 ∷ events_left next.2)
+            × (batches_left self.entry ≡ batch_seen next.1 ∷ batches_left next.2))) }
+    {
+        let mut ahead = self.records;
+        while let Some((record, behind)) = ahead.split_first() {
+            if let Some(event) = event_of(alloc, &record)? {
+                let (batch, records) = batch_of(alloc, behind)?;
+                return Ok(Some((event, batch, Turns { records })));
+            }
+            ahead = behind;
+        }
+        Ok(None)
+    }
+}
