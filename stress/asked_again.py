@@ -32,13 +32,16 @@ TOLD = " messages again within an hour, limit "
 
 
 class Client:
-    """A session that reads when it is told to."""
+    """A session that reads when it is told to. With small segments its peer's system buffers little of what it isn't
+    read."""
 
-    def __init__(self, name, address, number=0, room=None):
+    def __init__(self, name, address, number=0, room=None, segment=None):
         self.name, self.number = name, number
         self.stream = socket.socket()
         if room:
             self.stream.setsockopt(socket.SOL_SOCKET, socket.SO_RCVBUF, room)
+        if segment:
+            self.stream.setsockopt(socket.IPPROTO_TCP, socket.TCP_MAXSEG, segment)
         self.stream.connect(("127.0.0.1", address))
         self.reader, self.waiting = Reader(), []
         self.send(b"A", (98, b"0"), (108, b"0"))
@@ -102,11 +105,11 @@ def kept(client, orders=ORDERS, at_once=300):
     return seen
 
 
-def again(address, client, room=None):
+def again(address, client, room=None, segment=None):
     """The same client behind a lost link, as soon as its line takes it."""
     client.stream.close()
     time.sleep(0.5)
-    return Client(client.name, address, client.number, room)
+    return Client(client.name, address, client.number, room, segment)
 
 
 def ask(client, reads):
