@@ -15,11 +15,14 @@ use crate::sized::append_sized;
 use std::alloc::Global;
 use std::marker::Model;
 
+/// So many bytes of memory are kept for what is written next, at most.
+const MOST_KEPT: usize = 131_072;
+
 /// A log over a file. Contracts see the file, and why the log takes no more, if it doesn't.
 #[derive(Drop)]
 pub struct DayLog<F: LogFile> {
     file: F,
-    /// What is written next. It is kept for its memory.
+    /// What is written next. It is kept for its memory, unless that was a long page.
     bytes: Vec<u8>,
     shut: Option<LogFault>,
 }
@@ -111,7 +114,11 @@ impl<F: LogFile> DayLog<F> {
         }
         self.bytes.clear();
         append_sized(&mut self.bytes, page)?;
-        match put(&mut self.file, self.bytes.as_slice()) {
+        let is_put = put(&mut self.file, self.bytes.as_slice());
+        if self.bytes.capacity() > MOST_KEPT {
+            self.bytes = Vec::new(*self.bytes.allocator());
+        }
+        match is_put {
             Ok(()) => Ok(()),
             Err(_) => {
                 self.shut = Some(LogFault::Failed);

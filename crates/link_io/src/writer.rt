@@ -28,6 +28,9 @@ const MOST_LISTS: u32 = 64;
 /// With this many bytes to be written no further list is taken.
 const ENOUGH_BYTES: usize = 16_384;
 
+/// So many bytes of memory are kept for what is written next, at most.
+const MOST_KEPT: usize = 131_072;
+
 /// How often a write is tried that only took too long, where the link holds up nobody.
 const MOST_WRITES: u32 = 20;
 
@@ -222,7 +225,7 @@ impl BatchWriter {
         match stream.write_promptly(self.pending.as_slice()) {
             Ok(count) if count == self.pending.len() => {
                 self.sent.tell(gate, self.pending.as_slice(), 0);
-                self.pending.clear();
+                empty(&mut self.pending);
                 true
             }
             Ok(count) => {
@@ -279,7 +282,7 @@ impl BatchWriter {
             taken: self.is_taken,
             closed: self.is_closing,
         };
-        self.pending.clear();
+        empty(&mut self.pending);
         self.is_taken = false;
         self.is_closing = false;
         wrote
@@ -327,12 +330,14 @@ impl BatchWriter {
         true
     }
 
-    /// Joins the rest of the list that was taken. If memory runs out the rest is kept.
+    /// Joins the rest of the list that was taken, and gives its memory back. If memory runs out the rest is kept.
     fn join(&mut self, alloc: Global) -> Result<(), AllocError>
         ensures joins { Joins self.old self.new }
         ensures joined { OnOk result (self.new.held ≡ []) }
     {
         while self.join_next(alloc)? {}
+        self.held = ShortList::new();
+        self.joined = 0;
         Ok(())
     }
 
@@ -349,6 +354,17 @@ impl BatchWriter {
         self.sent.look(self.link, &self.held[self.joined]);
         self.joined += 1;
         Ok(true)
+    }
+}
+
+/// Drops these bytes. Their memory is kept for the next ones, unless it is that of a long answer.
+fn empty(bytes: &mut Vec<u8>)
+    ensures { bytes.new.items ≡ [] }
+{
+    if bytes.capacity() > MOST_KEPT {
+        *bytes = Vec::new(*bytes.allocator());
+    } else {
+        bytes.clear();
     }
 }
 
