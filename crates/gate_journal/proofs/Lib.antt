@@ -1,2 +1,3 @@
+mod Behind
 mod Growing
 mod Turning

@@ -1,10 +1,14 @@
 //! A history over pages.
 
-ghost use Rattle.std.specs.Prelude.{◌≡◌, ◌⊎◌, ◌++◌, ◌∷◌, [], None, Some, map, IfOk, OnErr, MatchResult, length};
+ghost use Rattle.std.specs.Prelude.{◌≡◌, ◌%◌, ◌^◌, ◌⊎◌, ◌++◌, ◌∷◌, [], None, Some, map, length};
+ghost use Rattle.std.specs.Prelude.{IfOk, OnErr, MatchResult};
 ghost use Rattle.gate_events.specs.Seen.{batch_seen};
 ghost use Rattle.gate_events.specs.Sources.{events_from, lists_to};
 ghost use Rattle.journal_pages.specs.declared.fault.PageFault.TheVariants.{NoMemory};
+ghost use Rattle.journal_pages.specs.Page as format;
+ghost use Rattle.journal_records.specs.Days.{batches_in};
 ghost use Rattle.journal_records.specs.journal_days.Cut.{texts, with_records};
+ghost use Rattle.journal_records.specs.journal_days.Left.{records_left};
 ghost use Rattle.journal_pages.specs.declared.version.Version.TheVariants.{One, Two};
 ghost use Rattle.journal_records.specs.journal_days.Day as spec;
 ghost use Rattle.journal_records.specs.journal_days.Day.{version_of};
@@ -12,7 +16,7 @@ ghost use Rattle.journal_records.specs.Parts.{turn_records};
 
 use crate::turns::Turns;
 use gate_events::{Batch, Event, Recipient, Source, Told, told_lists};
-use journal_pages::PageFault;
+use journal_pages::{PageFault, RecordKind};
 use journal_records::{
     DayPages, DayRecords, Version, append_turn, batches_of, events_of, judge_day,
 };
@@ -53,6 +57,14 @@ impl History {
         }
     }
 
+    /// The history that these pages are. Takes no memory.
+    pub(crate) fn of(pages: DayPages) -> History
+        requires { day_fault Two pages ≡ None }
+        ensures { result ≡ kept_in pages }
+    {
+        History { pages }
+    }
+
     /// One event more, with the batch that it gave: its records go behind the others, and a new page begins where the
     /// next record would carry the last one past 65,536 bytes. `AllocError` leaves the history as it was, its pages
     /// too; it comes also for a link that is told 2^20 bytes or more at once. Two growths for each new page, one at
@@ -78,6 +90,13 @@ impl History {
     {
         let events = events_of(alloc, DayRecords::of(Version::Two, self.pages.as_slice()))?;
         Ok(events)
+    }
+
+    /// How many events were pushed. Takes no memory.
+    pub fn count(&self) -> u64
+        ensures { result ≡ length self.now.events % 2 ^ 64 }
+    {
+        count_of(DayRecords::of(Version::Two, self.pages.as_slice()))
     }
 
     /// Their batches, one for each event, in order, read from the pages.
@@ -143,6 +162,38 @@ impl History {
             Err(_) => Err((0, PageFault::NoMemory)),
         }
     }
+}
+
+/// How many of these records are events.
+fn count_of(records: DayRecords<'_>) -> u64
+    ensures { result ≡ length (batches_in (records_left records.entry)) % 2 ^ 64 }
+{
+    let mut ahead = records;
+    let mut count = 0u64;
+    while let Some((record, behind)) = ahead.split_first() {
+        if is_event(record.kind) {
+            count = count.wrapping_add(1);
+        }
+        ahead = behind;
+    }
+    count
+}
+
+/// Whether a record of this kind is an event.
+fn is_event(kind: RecordKind) -> bool
+    ensures { result ≡ format.is_event kind }
+{
+    matches!(
+        kind,
+        RecordKind::ClientUp
+            | RecordKind::ClientMessage
+            | RecordKind::ClientGone
+            | RecordKind::ClientTick
+            | RecordKind::PortUp
+            | RecordKind::PortPacket
+            | RecordKind::PortGone
+            | RecordKind::PortTick
+    )
 }
 
 /// The pages in which a day of a version is kept: of version 2 these, copied; of version 1 their records, written anew.

@@ -4,10 +4,12 @@
 //! history again.
 #![tactic(auto)]
 
+mod growing_history;
 mod history;
 mod turns;
 
 pub use gate_events::{Batch, ClientNumber, Event, LinkOut, PortNumber, Recipient, Source, Told};
+pub use growing_history::{GrowingHistory, RecentPages};
 pub use history::History;
 pub use journal_pages::{PageFault, Version};
 pub use short_list::ShortList;

@@ -16,5 +16,6 @@ mod records;
 pub use day::judge_day;
 pub use journal_pages::Version;
 pub use laws::{days_are_rewritten, days_go_on, numbers_count_records};
+pub use numbers::next_number;
 pub use pages::{DayPages, PagesMark};
 pub use records::DayRecords;

@@ -20,7 +20,8 @@ pub fn number_behind(page: &[u8]) -> u64
     number
 }
 
-/// The number of the page behind some: as many records as they have.
+/// The number of the page behind some: as many records as they have, as a number of 64 bits; 0 behind none. Takes no
+/// memory.
 pub fn next_number(pages: &[Vec<u8>]) -> u64
     ensures { result ≡ spec.next_number (texts pages.now) }
 {

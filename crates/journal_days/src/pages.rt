@@ -1,6 +1,6 @@
 //! Pages that records are written into.
 
-ghost use Rattle.std.specs.Prelude.{◌≡◌, ◌+◌, ◌<◌, ◌≤◌, ◌++◌, ◌∷◌, [], List, length, true, IfOk, OnOk, OnErr};
+ghost use Rattle.std.specs.Prelude.{◌≡◌, ◌+◌, ◌<◌, ◌≤◌, ◌++◌, ◌∷◌, [], List, drop, length, true, IfOk, OnOk, OnErr};
 ghost use Rattle.journal_pages.specs.Record.{Record, payload_limit};
 ghost use Rattle.journal_pages.specs.Seen.{record_of, record_seen};
 ghost use Rattle.journal_pages.specs.declared.version.Version.TheVariants.{One};
@@ -111,6 +111,16 @@ impl DayPages {
         ensures { texts result.now ≡ self.now }
     {
         &self.pages
+    }
+
+    /// Drops the first page, where there is one. Takes no memory.
+    pub fn drop_first(&mut self)
+        ensures { self.new ≡ drop 1 self.old }
+    {
+        if self.pages.is_empty() {
+            return;
+        }
+        let _ = self.pages.remove(0);
     }
 
     /// Where the pages end now: `undo` brings them back to it, whatever records came behind. Takes no memory.

@@ -2,5 +2,7 @@
 #![tactic(auto)]
 
 mod list;
+mod pages;
 
 pub use list::Noted;
+pub use pages::NotedPages;

@@ -1,4 +1,4 @@
-use Rattle.std.proofs.Common.{List, ℕ, ap, ◌∙◌}
+use Rattle.std.proofs.Common.{ap, ◌∙◌}
 use Rattle.journal_pages.specs.declared.version.Version.TheVariants.{Two}
 use Rattle.journal_records.specs.journal_days.Cut.{texts}
 use Rattle.journal_records.specs.journal_days.Day.{day_fault, day_records}
