@@ -1,10 +1,10 @@
 #!/usr/bin/env python3
-"""check-over-built.py RUN CRATE [FLAG..], anywhere in a clone: checks CRATE over the libraries that a checkout RUN has built (a whole run, say, also while it
-goes on), where the clone's text is the same, and over sources for the rest: their definitions are read, and their functions aren't proved. FLAGs are
+"""check-over-built.py RUN[,RUN..] CRATE [FLAG..], anywhere in a clone: checks CRATE over the libraries that a checkout RUN has built (a whole run, say, also
+while it goes on), where the clone's text is the same, and over sources for the rest: their definitions are read, and their functions aren't proved. FLAGs are
 those of rattle's check, as --only F and --allow-holes, and --test. No verdict. From the environment JOBS says how many jobs (1)."""
 import os, subprocess, sys, time
 CLONE = subprocess.run(["git", "rev-parse", "--show-toplevel"], capture_output=True, text=True).stdout.strip()
-RUN, crate = os.path.abspath(sys.argv[1]), sys.argv[2]
+RUNS, crate = [os.path.abspath(run) for run in sys.argv[1].split(",")], sys.argv[2]
 P = CLONE + "/crates/" + crate
 KIT = os.path.dirname(subprocess.run(["rt", "doc"], capture_output=True, text=True).stdout.strip())
 sys.path.insert(0, f"{KIT}/bin")
@@ -22,12 +22,12 @@ tests = "--test" in flags
 flags = [f for f in flags if f != "--test"]
 cache = {}
 def built(name):
-    lib = f"{RUN}/crates/{name}/out/rlib/{name}.rlib"
-    if not os.path.isfile(f"{lib}/format"):
-        return None
     mine = rtlib.Crate(f"{CLONE}/crates/{name}", CLONE, cache)
-    theirs = rtlib.Crate(f"{RUN}/crates/{name}", RUN, {})
-    return lib if mine.stamp() == theirs.stamp() else None
+    for run in RUNS:
+        lib = f"{run}/crates/{name}/out/rlib/{name}.rlib"
+        if os.path.isfile(f"{lib}/format") and mine.stamp() == rtlib.Crate(f"{run}/crates/{name}", run, {}).stamp():
+            return lib
+    return None
 libs = {it.name: built(it.name) for it in c.below()}
 words = c.words(["--jobs", os.environ.get("JOBS", "1")] + (["--test"] if tests else []), as_source=True)
 out, k, sources = [], 0, []
