@@ -53,6 +53,11 @@ def loaded(load, kind, words, folder, orders, outstanding, client, market):
     return loading.communicate()[0].strip(), running
 
 
+def memory_of(running):
+    """How much memory a process had at most, in MB."""
+    return int(Path(f"/proc/{running.pid}/status").read_text().partition("VmHWM:")[2].split()[0]) >> 10
+
+
 def one(gateway, load, relay, what, orders, outstanding):
     with tempfile.TemporaryDirectory(dir=os.environ.get("JOURNALS")) as folder:
         client, market = free(), free()
@@ -62,9 +67,10 @@ def one(gateway, load, relay, what, orders, outstanding):
         kind = "relay" if what == "relay" else "gateway"
         words = [relay, str(client), str(market)] if what == "relay" else words
         said, running = loaded(load, kind, words, folder, orders, outstanding, client, market)
+        memory = memory_of(running)
         running.kill()
         running.wait()
-        print(f"{what:8} {said}", flush=True)
+        print(f"{what:8} {said}, {memory} MB at most", flush=True)
 
 
 def again(gateway, load, orders):
@@ -73,6 +79,7 @@ def again(gateway, load, orders):
         Path(folder, "settings").write_text(SETTINGS.format(client=client, market=market))
         words = [gateway, "serve", "--settings", f"{folder}/settings", "--journal", f"{folder}/journal"]
         said, running = loaded(load, "gateway", words, folder, orders, 100, client, market)
+        print(f"{said}, {memory_of(running)} MB at most", flush=True)
         running.kill()
         running.wait()
         size, begin = Path(folder, "journal").stat().st_size, time.monotonic()
@@ -83,11 +90,11 @@ def again(gateway, load, orders):
             running = subprocess.Popen(words, stdout=subprocess.DEVNULL, stderr=errors)
             it.accept()
             took = time.monotonic() - begin
-            memory = Path(f"/proc/{running.pid}/status").read_text().partition("VmHWM:")[2].split()[0]
+            memory = memory_of(running)
             running.kill()
             running.wait()
         print(f"{orders} orders, a journal of {size >> 20} MB: it logs in {took:.2f} s after it is started again, "
-              f"{int(memory) >> 10} MB at most")
+              f"{memory} MB at most")
         begin, before = time.monotonic(), resource.getrusage(resource.RUSAGE_CHILDREN).ru_maxrss
         words = [gateway, "end", *words[2:]]
         ran = subprocess.run(words, capture_output=True, text=True)

@@ -1,7 +1,7 @@
 """What a client does to its session and its links besides trading."""
 from . import noise
 
-MUCH = 8_000_000
+MUCH = 5_000_000
 KINDS = {"garbage": 30, "damage": 30, "test": 8, "ask_again": 8, "repeat": 10, "administrative": 8, "burst": 3,
          "reprices": 30, "fatal": 1.5, "oversized": 1, "connect_twice": 3, "log_out": 2, "end_writing": 1}
 
@@ -120,7 +120,7 @@ class Mischief:
         client, reports = self.client, len(self.session.seen)
         client.plan.stalls = False
         client.link.outward = client.link.inward = None
-        count, each = self.random.choice([(MUCH // (200 * reports) + 1, reports), (2_500, 30)])
+        count, each = self.random.choice([(MUCH // (200 * reports) + 1, reports), (800, 30)])
         for _ in range(count):
             begin = self.random.randint(1, reports - each + 1)
             self.session.ask_again(begin, begin + each, now)

@@ -127,7 +127,7 @@ class StoppedDay(Day):
         ran = self.of_journal("audit", "--so-far")
         self.is_so("bytes that are a torn end alone: " + ran.stderr.strip(), ran.returncode == 0)
         damaged = bytearray((self.folder / "copy").read_bytes())
-        damaged[100] ^= 1
+        damaged[40] ^= 1
         self.journal.write_bytes(damaged)
         ran, far = self.of_journal("end"), self.of_journal("audit", "--so-far")
         self.is_so("a damaged one: " + ran.stderr.strip(), (ran.returncode, far.returncode, far.stdout) == (2, 2, "")
