@@ -182,4 +182,45 @@ def another_day(stage):
                stage.asked("end", "--settings", str(own), "--journal", journal)[:2])
 
 
-STEPS_OF_COUNTED_DAYS = (no_thread, some_threads, all_come_and_go, lost_links, an_unlawful_market, another_day)
+def pages_that_leave_memory(stage):
+    """a day of 401 orders has its audit, and names its open order, by its journal's file, since older pages leave memory:
+    where a byte of the file changed there is no audit, and the status is 1"""
+    journal = str(stage.folder / "day")
+    stage.same("a day by its file", (0, ["A0 of C1: 100 of 100 open at the market",
+                                         "gateway: 1 orders are open at the market, 0 weren't answered"]),
+               many_orders(stage, journal))
+    audit = stage.gateways[-1].output.read_text()
+    stage.holds("the audit has all orders", audit.endswith("agree\norders 401 agree 401\n"))
+    stage.same("the journal's audit", (0, audit, ""),
+               stage.asked("audit", "--journal", journal, "--settings", str(stage.settings)))
+    stage.same("a day whose file changed", (1, ["gateway: journal: it doesn't have the day"]),
+               many_orders(stage, str(stage.folder / "other"), 40))
+    stage.same("its audit", "", stage.gateways[-1].output.read_text())
+
+
+def many_orders(stage, journal, place=None):
+    """A day of 401 orders, the first of which stays open; before it ends a byte of its journal may change. The gateway's
+    status, and its last lines, behind those of links."""
+    (client,), (address,) = stage.set_up(1)
+    stage.market(address)
+    gateway = stage.gateway("serve", "--journal", journal, "--sync", "never")
+    client.connect().log_on()
+    client.order(b"A0", price=b"1")
+    for number in range(1, 401):
+        client.order(b"A%d" % number)
+    stage.holds("the last order is filled", client.told(b"A400", b"F") is not None)
+    time.sleep(0.5)
+    if place is not None:
+        with open(journal, "r+b") as file:
+            file.seek(place)
+            byte = file.read(1)
+            file.seek(place)
+            file.write(bytes([byte[0] ^ 1]))
+    stage.same("whoever ends it", 0, stage.end(gateway, "--now")[0])
+    lines = gateway.lines()
+    ends = [at for at, line in enumerate(lines) if re.fullmatch(r"[CP]1 (gone|closed by the gateway|link fault .*)", line)]
+    return gateway.status(), lines[ends[-1] + 1:]
+
+
+STEPS_OF_COUNTED_DAYS = (no_thread, some_threads, all_come_and_go, lost_links, an_unlawful_market, another_day,
+                         pages_that_leave_memory)

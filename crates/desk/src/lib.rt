@@ -10,7 +10,7 @@ mod shared;
 mod told_outlets;
 
 pub use desk_ends::{DeskName, Finished, Inlet, Outlet, Recipient, more_places};
-pub use desk_steps::{History, Status, Turned};
+pub use desk_steps::{GrowingHistory, History, Status, Turned};
 pub use desk_value::{Closed, Desk};
 pub use host_log::HostFile;
 pub use opening::{Parts, open_desk};

@@ -1,8 +1,6 @@
 //! A desk that threads share.
 
 ghost use Rattle.std.specs.Prelude.{◌≡◌, List, vec_len};
-ghost use Rattle.desk_ends.specs.Rings.{Done};
-ghost use Rattle.desk_steps.specs.Settling.{AreReleased};
 
 use crate::told_outlets::{ToldOutlets, WriteTold};
 use desk_ends::{DeskName, Finished};
@@ -69,12 +67,12 @@ impl<K: DeskName, S: BuildHasher + Drop> Drop for Shared<K, S> {
 }
 
 impl<K: DeskName, S: BuildHasher + Drop> Shared<K, S> {
-    ghost use Rattle.std.specs.Prelude.{◌≡◌, IfOk, IfErr, vec_len};
+    ghost use Rattle.std.specs.Prelude.{◌≡◌, IfOk, IfErr, None, vec_len};
     ghost use Rattle.gate_law.specs.Holds.{Holds};
     ghost use Rattle.desk_steps.specs.gate_journal.Kept.{turns};
     ghost use Rattle.desk_steps.specs.Agreeing.{AreNamed};
     ghost use Rattle.desk_steps.specs.Settling.{AreSettled};
-    ghost use Rattle.desk_value.specs.Ahead.{ToldIsKept};
+    ghost use Rattle.desk_value.specs.Ahead.{IsEnded, ToldIsKept};
     ghost use Rattle.host_log.specs.Seen.{host_may_leave, host_seen};
     ghost use Rattle.turn_log.specs.Kept.{HasAll};
 
@@ -271,6 +269,14 @@ impl<K: DeskName, S: BuildHasher + Drop> Shared<K, S> {
         Ok((turned, prompt.and(waiting)))
     }
 
+    /// Has the older pages of the history leave memory, where there is a journal that has all of it, once the lock
+    /// could be had.
+    pub fn drop_older(&self, rt: &impl Wait) {
+        let mut guard = self.desk.lock(rt);
+        let desk = &mut *guard;
+        desk.drop_older();
+    }
+
     /// Rings the bells of the outlets that were told something that may wait, and nothing since that isn't to
     /// (`Side::tell`), once the lock could be had: their writers write it.
     pub fn ring_waiting(&self, rt: &impl Wait) {
@@ -372,6 +378,7 @@ impl<K: DeskName, S: BuildHasher + Drop> Shared<K, S> {
         ensures settled { IfOk result (λ closed. AreSettled finished.items closed.history) }
         ensures named { IfOk result (λ closed. AreNamed K.inlets closed.history.events) }
         ensures told { IfOk result (λ closed. ToldIsKept finished.items closed.journal) }
+        ensures ended { IfOk result (λ closed. closed.lost ≡ None → IsEnded closed.history closed.journal) }
         ensures err { IfErr result (λ e. e.2.items ≡ finished.items) }
     {
         let Shared {
@@ -384,9 +391,9 @@ impl<K: DeskName, S: BuildHasher + Drop> Shared<K, S> {
         let mut desk = desk.into_inner();
         let mut finished = finished;
         match desk.settle(alloc, &mut finished) {
-            Ok(()) => match end_journal(&mut desk, alloc) {
-                Ok(lost) => Ok(desk.close(lost)),
-                Err(error) => Err((error, Shared::new(desk, bells), finished)),
+            Ok(()) => match desk.close(alloc) {
+                Ok(closed) => Ok(closed),
+                Err(desk) => Err((AllocError, Shared::new(desk, bells), finished)),
             },
             Err(error) => Err((error, Shared::new(desk, bells), finished)),
         }
@@ -434,25 +441,4 @@ fn rounds<K: DeskName, S: BuildHasher + Drop>(
         is_all: true,
         is_refused,
     })
-}
-
-/// Has all in the journal, with its end, where there is one, and gives why it couldn't. Where memory is refused it may
-/// be tried again.
-fn end_journal<K: DeskName, S: BuildHasher + Drop>(
-    desk: &mut Desk<K, S>,
-    alloc: Global,
-) -> Result<Option<LogFault>, AllocError>
-    ensures recorded { desk.new.recorded ≡ desk.old.recorded }
-    ensures released { (finished : List Done) → AreReleased finished desk.old.side.ways
-        → AreReleased finished desk.new.side.ways }
-{
-    let kept = match desk.keep(alloc) {
-        Ok(()) => desk.end_journal(),
-        Err(fault) => Err(fault),
-    };
-    match kept {
-        Ok(()) => Ok(None),
-        Err(LogFault::NoMemory) => Err(AllocError),
-        Err(fault) => Ok(Some(fault)),
-    }
 }

@@ -6,7 +6,7 @@ use Rattle.std.specs.declared.hash.Hasher as Hasher
 use Rattle.std.specs.declared.hash.BuildHasher as BuildHasher
 use Rattle.std.proofs.Crossing.{crosses}
 use Rattle.gate_core.proofs.Sent.{core_send}
-use Rattle.gate_journal.specs.contracts.history.History as History
+use Rattle.gate_journal.specs.contracts.growing_history.GrowingHistory as History
 use Rattle.desk_steps.specs.contracts.recorded.RecordedCore as RecordedCore
 
 history : IsSend History.the_row

@@ -14,7 +14,7 @@ mod turning;
 pub use closing::settle;
 pub use desk_side::{Side, open_side};
 pub use gate_core::{ClientRow, PortRow, PortState, Settings};
-pub use gate_journal::History;
+pub use gate_journal::{GrowingHistory, History};
 pub use recorded::RecordedCore;
 pub use soup_session::PortFault;
 pub use status::Status;

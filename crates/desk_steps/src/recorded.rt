@@ -10,7 +10,7 @@ use desk_side::Said;
 use fix_fields::Fields;
 use fix_session::LogonFault;
 use gate_core::{Batch, ClientNumber, Core, Event, PortFault, Settings, Targets};
-use gate_journal::History;
+use gate_journal::GrowingHistory;
 use std::alloc::{AllocError, Global};
 use std::hash::{BuildHasher, BuildHasherDefault, FoldHasher};
 use std::marker::Model;
@@ -20,7 +20,7 @@ use std::marker::Model;
 pub struct RecordedCore<S: BuildHasher + Drop = BuildHasherDefault<FoldHasher>> {
     settings: Settings,
     core: Core<S>,
-    history: History,
+    history: GrowingHistory,
 }
 
 // Not derived: then each way out drops it in one call (docs/DECISIONS.md, "Drops").
@@ -59,7 +59,7 @@ impl RecordedCore {
         Ok(RecordedCore {
             settings,
             core,
-            history: History::new(alloc),
+            history: GrowingHistory::new(alloc),
         })
     }
 }
@@ -81,7 +81,7 @@ impl<S: BuildHasher + Clone + Drop> RecordedCore<S> {
         Ok(RecordedCore {
             settings,
             core,
-            history: History::new(alloc),
+            history: GrowingHistory::new(alloc),
         })
     }
 }
@@ -168,15 +168,22 @@ impl<S: BuildHasher + Drop> RecordedCore<S> {
     }
 
     /// The history: all that is promised holds of it.
-    pub fn history(&self) -> &History
+    pub fn history(&self) -> &GrowingHistory
         ensures value { result.now ≡ self.now.kept }
         ensures holds { Holds self.now.settings (turns self.now.kept) }
     {
         &self.history
     }
 
+    /// Has all pages of the history but the last leave memory (`GrowingHistory::drop_older`). Takes no memory.
+    pub fn drop_older(&mut self)
+        ensures { self.new ≡ self.old }
+    {
+        self.history.drop_older();
+    }
+
     /// The settings and the history: all that is promised holds of it.
-    pub fn into_parts(self) -> (Settings, History)
+    pub fn into_parts(self) -> (Settings, GrowingHistory)
         ensures settings { result.0 ≡ self.settings }
         ensures history { result.1 ≡ self.kept }
         ensures holds { Holds self.settings (turns self.kept) }

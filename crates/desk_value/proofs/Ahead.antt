@@ -1,5 +1,6 @@
 -- What a desk with a journal keeps, whatever is done with it.
-use Rattle.std.proofs.Common.{◌≡◌, ℕ, true, Option, Some, None, List, [], ◌∷◌, slice_get, refl, sym, ap, ◌∙◌, subst}
+use Rattle.std.specs.Prelude.{◌⊎◌}
+use Rattle.std.proofs.Common.{inl, inr, ◌≡◌, ℕ, true, Option, Some, None, List, [], ◌∷◌, slice_get, refl, sym, ap, ◌∙◌, subst}
 use mathlib.Core.List.{IsPrefix}
 use Rattle.gate_events.specs.Sources.{lists_to}
 use Rattle.gate_law.specs.Events as law
@@ -22,7 +23,7 @@ use Rattle.host_log.specs.declared.host_file.HostFile.{HostFile}
 use Rattle.host_log.specs.Seen.{host_may_leave, host_seen}
 use Rattle.turn_log.specs.Kept.{HasAll, HasDay, StandsAt, TurnLogState}
 use Rattle.turn_log.proofs.Keeping.{all-has}
-use Rattle.desk_value.specs.Ahead.{AreToldFrom, IsWrittenAhead, KeepsAhead, ToldIsKept}
+use Rattle.desk_value.specs.Ahead.{AreToldFrom, Ends, HasStill, IsEnded, IsWrittenAhead, KeepsAhead, ToldIsKept}
 
 -- ---- steps
 
@@ -120,12 +121,39 @@ may-stage-ahead (Some log) r s t stage ahead = record {
 
 -- ---- the journal alone
 
-pub journal-ahead : (old new : TurnLogState HostFile) (s : DeskState)
-    → ((before : List (List ℕ)) → HasDay host_seen host_may_leave before old
-    → HasDay host_seen host_may_leave before new)
-    → IsWrittenAhead old s → IsWrittenAhead new s
-journal-ahead old new s kept ahead = record
-    { history = ahead.history; has = kept ahead.history ahead.has; more = ahead.more; told = ahead.told }
+-- a journal that was to end
+pub ends-ahead : (inlets : List NamedInlet) (outlets : List NamedOutlet) (r : Recorded) (s : SideState)
+    (old new : Option (TurnLogState HostFile)) → Agrees inlets outlets (record { recorded = r; side = s })
+    → HasStill r.kept old new
+    → KeepsAhead old (record { recorded = r; side = s }) → KeepsAhead new (record { recorded = r; side = s })
+ends-ahead inlets outlets r s None None agrees still ahead = tt
+ends-ahead inlets outlets r s None (Some new) agrees still ahead = absurd still
+ends-ahead inlets outlets r s (Some old) None agrees still ahead = absurd still
+ends-ahead inlets outlets r s (Some old) (Some new) agrees still ahead =
+    by_has (still.1 ahead.history ahead.has ahead.more)
+  where
+    by_has : HasDay host_seen host_may_leave ahead.history new ⊎ HasDay host_seen host_may_leave r.kept.pages new
+        → IsWrittenAhead new (record { recorded = r; side = s })
+    by_has (inl has) = record { history = ahead.history; has = has; more = ahead.more; told = ahead.told }
+    by_has (inr has) = record {
+      history = r.kept.pages;
+      has = has;
+      more = record { records = []; same = refl };
+      told = λ d w at.
+          let was = ahead.told d w at in (
+            was.0,
+            prefix-trans w.released w.sent (lists_to w.name.to (kept_in r.kept.pages).batches) was.2
+                (sent-told inlets outlets r s s new agrees still.0 has d w w at refl refl),
+            was.2,
+          );
+    }
+
+pub ends-once : (r : Recorded) (s : SideState) (old new : Option (TurnLogState HostFile)) → Ends r.kept old new
+    → KeepsAhead old (record { recorded = r; side = s }) → IsEnded r.kept new
+ends-once r s None None ends ahead = tt
+ends-once r s None (Some new) ends ahead = absurd ends
+ends-once r s (Some old) None ends ahead = absurd ends
+ends-once r s (Some old) (Some new) ends ahead = ends ahead.history ahead.has ahead.more
 
 pub begun-day : (history : List (List ℕ)) (log : TurnLogState HostFile) → StandsAt history log
     → HasAll host_seen host_may_leave history log.file → HasDay host_seen host_may_leave history log

@@ -1,11 +1,11 @@
 -- What a desk with a journal keeps: nobody is told more than the journal's file has, durably. (Own.)
-use Rattle.std.specs.Prelude.{◌≡◌, ℕ, true, Option, Some, None, slice_get, List}
+use Rattle.std.specs.Prelude.{◌≡◌, ◌⊎◌, ℕ, true, Option, Some, None, slice_get, List}
 use mathlib.Core.List.{IsPrefix}
 use Rattle.gate_events.specs.Sources.{lists_to}
 use Rattle.journal_pages.specs.declared.version.Version.TheVariants.{Two}
 use Rattle.desk_steps.specs.gate_journal.Cut.{IsMoreOf}
 use Rattle.desk_steps.specs.gate_journal.Day.{day_records}
-use Rattle.desk_steps.specs.gate_journal.Kept.{kept_in}
+use Rattle.desk_steps.specs.gate_journal.Kept.{Kept, kept_in}
 use Rattle.gate_law.specs.Events.{LinkOut}
 use Rattle.gate_events.specs.declared.source.Recipient.{Recipient}
 use Rattle.desk_ends.specs.Rings.{Done, took_at}
@@ -13,7 +13,7 @@ use Rattle.desk_ends.specs.Seats.{WayState}
 use Rattle.desk_steps.specs.Agreeing.{DeskState}
 use Rattle.host_log.specs.declared.host_file.HostFile.{HostFile}
 use Rattle.host_log.specs.Seen.{host_may_leave, host_seen}
-use Rattle.turn_log.specs.Kept.{HasDay, LeavesAll, TurnLogState}
+use Rattle.turn_log.specs.Kept.{HasDay, HasEnd, LeavesAll, TurnLogState}
 
 -- What lies in the ring of each way, or was taken out of it, is a beginning of what a history tells its recipient; the
 -- rest of what was sent waits beside the ring.
@@ -41,6 +41,28 @@ pub record EachCrashTells (finished : List Done) (log : TurnLogState HostFile) :
 abbrev pub ToldIsKept : List Done → Option (TurnLogState HostFile) → Type 0
 ToldIsKept finished None = Unit {0}
 ToldIsKept finished (Some log) = EachCrashTells finished log
+
+-- The file of a journal is a history and an end, all of it durable.
+abbrev pub IsEnded : Kept → Option (TurnLogState HostFile) → Type 0
+IsEnded kept None = Unit {0}
+IsEnded kept (Some log) = HasEnd host_seen host_may_leave kept.pages log.file
+
+-- what a journal had, before and after it was to end: that, or a whole history that goes on with it
+abbrev pub HasStill : Kept → Option (TurnLogState HostFile) → Option (TurnLogState HostFile) → Type 0
+HasStill now None None = Unit {0}
+HasStill now (Some old) (Some new) = (now ≡ kept_in now.pages) × ((before : List (List ℕ))
+    → HasDay host_seen host_may_leave before old → IsMoreOf before now.pages
+    → HasDay host_seen host_may_leave before new ⊎ HasDay host_seen host_may_leave now.pages new)
+HasStill now None (Some new) = ⊥
+HasStill now (Some old) None = ⊥
+
+-- and once it ended
+abbrev pub Ends : Kept → Option (TurnLogState HostFile) → Option (TurnLogState HostFile) → Type 0
+Ends now None None = Unit {0}
+Ends now (Some old) (Some new) = (before : List (List ℕ)) → HasDay host_seen host_may_leave before old
+    → IsMoreOf before now.pages → HasEnd host_seen host_may_leave now.pages new.file
+Ends now None (Some new) = ⊥
+Ends now (Some old) None = ⊥
 
 -- of a desk that has a journal
 abbrev pub KeepsAhead : Option (TurnLogState HostFile) → DeskState → Type 0

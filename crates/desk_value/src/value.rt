@@ -1,7 +1,14 @@
 //! What lies under the lock.
 
+ghost use Rattle.std.specs.Prelude.{◌≡◌, OnOk};
+ghost use Rattle.gate_law.specs.Holds.{Holds};
+ghost use Rattle.desk_steps.specs.gate_journal.Kept.{turns};
+ghost use Rattle.desk_value.specs.Ahead.{Ends, HasStill};
+
 use desk_ends::{DeskName, Finished};
-use desk_steps::{History, PortFault, RecordedCore, Settings, Side, Status, Turned, round, settle};
+use desk_steps::{
+    GrowingHistory, History, PortFault, RecordedCore, Settings, Side, Status, Turned, round, settle,
+};
 use fix_fields::Fields;
 use fix_session::LogonFault;
 use gate_events::{ClientNumber, Event};
@@ -51,19 +58,19 @@ impl<K: DeskName, S: BuildHasher + Drop> Model for Desk<K, S> {
         × KeepsAhead d.journal (record { recorded = d.recorded; side = d.side }) };
 }
 
-/// What is left of a desk that was closed: its history, the settings of its core, its journal, if it had one, and why
-/// that doesn't have all, if it doesn't.
+/// What is left of a desk that was closed: its history, of which the older pages may have left memory where it has a
+/// journal; the settings of its core; its journal, if it had one, and why that doesn't have all, if it doesn't.
 #[derive(Drop)]
 pub struct Closed {
-    pub history: History,
+    pub history: GrowingHistory,
     pub settings: Settings,
     pub journal: Option<TurnLog<HostFile>>,
     pub lost: Option<LogFault>,
 }
 
 impl<K: DeskName, S: BuildHasher + Drop> Desk<K, S> {
-    ghost use Rattle.std.specs.Prelude.{◌≡◌, IfOk, List, MatchOption, OnOk, OnErr};
-    ghost use Rattle.desk_value.specs.Ahead.{ToldIsKept};
+    ghost use Rattle.std.specs.Prelude.{◌≡◌, IfErr, IfOk, List, MatchOption, None, OnOk, OnErr};
+    ghost use Rattle.desk_value.specs.Ahead.{IsEnded, ToldIsKept};
     ghost use Rattle.same_days.specs.Same.{IsOtherAt, IsSameDay};
     ghost use Rattle.gate_law.specs.After.{lists};
     ghost use Rattle.gate_law.specs.Holds.{Holds};
@@ -118,30 +125,36 @@ impl<K: DeskName, S: BuildHasher + Drop> Desk<K, S> {
         Ok(())
     }
 
+    /// Has the older pages of the history leave memory, where the journal has all of it. Takes no memory.
+    pub fn drop_older(&mut self)
+        ensures { self.new ≡ self.old }
+    {
+        let Some(journal) = &self.journal else {
+            return;
+        };
+        if journal.has_all(self.recorded.history()) {
+            self.recorded.drop_older();
+        }
+    }
+
     /// Whether it has a journal.
     pub fn has_journal(&self) -> bool {
         self.journal.is_some()
     }
 
-    /// Ends the journal, where there is one: it has all, and its end.
-    pub fn end_journal(&mut self) -> Result<(), LogFault>
-        ensures { self.new ≡ self.old }
-    {
-        match &mut self.journal {
-            Some(journal) => journal.end(),
-            None => Ok(()),
-        }
-    }
-
     /// Goes on with a journal of this day, as `begin_journal` does, where the history has just its events and batches.
-    /// Else nothing is done, and it gives how many batches are the same before the first that differs.
+    /// Else nothing is done, and it gives how many batches are the same before the first that differs. `AllocError`
+    /// comes also where pages of the history left memory: it has a journal.
     pub fn go_on(&mut self, log: DayLog<HostFile>, day: &History) -> Result<Option<u64>, AllocError>
         requires has { HasAll host_seen host_may_leave day.now.pages log.file }
         ensures recorded { self.new.recorded ≡ self.old.recorded }
         ensures same { IfOk result (λ other. MatchOption other (IsSameDay self.old.recorded.kept day.now)
             (λ place. IsOtherAt place self.old.recorded.kept day.now)) }
     {
-        if let Some(place) = first_other(self.recorded.history(), day) {
+        let Some(pages) = self.recorded.history().whole() else {
+            return Err(AllocError);
+        };
+        if let Some(place) = first_other(pages, day.pages()) {
             return Ok(Some(place));
         }
         self.begin_journal(log)?;
@@ -208,7 +221,7 @@ impl<K: DeskName, S: BuildHasher + Drop> Desk<K, S> {
     }
 
     /// The history so far: all that is promised holds of it.
-    pub fn history(&self) -> &History
+    pub fn history(&self) -> &GrowingHistory
         ensures value { result.now ≡ self.now.recorded.kept }
         ensures holds { Holds self.now.recorded.settings (turns result.now) }
     {
@@ -232,28 +245,72 @@ impl<K: DeskName, S: BuildHasher + Drop> Desk<K, S> {
         settle(&mut self.recorded, &mut self.side, alloc, finished)
     }
 
-    /// Ends the desk. All that is promised holds of its history, which has no events but those of the inlets' sources.
-    pub fn close(self, lost: Option<LogFault>) -> Closed
-        ensures history { result.history ≡ self.recorded.kept }
-        ensures settings { result.settings ≡ self.recorded.settings }
-        ensures holds { Holds result.settings (turns result.history) }
-        ensures named { AreNamed K.inlets result.history.events }
-        ensures told { (finished : List Done) → AreReleased finished self.side.ways
-            → ToldIsKept finished result.journal }
-        ensures lost { result.lost ≡ lost }
+    /// Ends the desk, and its journal, where there is one: that has all, and its end, or it is said why not. All that
+    /// is promised holds of its history, which has no events but those of the inlets' sources.
+    ///
+    /// Where memory is refused for the journal the desk is given back: the call may be made again.
+    pub fn close(self, alloc: Global) -> Result<Closed, Desk<K, S>>
+        ensures history { IfOk result (λ closed. closed.history ≡ self.recorded.kept) }
+        ensures settings { IfOk result (λ closed. closed.settings ≡ self.recorded.settings) }
+        ensures holds { IfOk result (λ closed. Holds closed.settings (turns closed.history)) }
+        ensures named { IfOk result (λ closed. AreNamed K.inlets closed.history.events) }
+        ensures told { IfOk result (λ closed. (finished : List Done) → AreReleased finished self.side.ways
+            → ToldIsKept finished closed.journal) }
+        ensures ended { IfOk result (λ closed. closed.lost ≡ None → IsEnded closed.history closed.journal) }
+        ensures err { IfErr result (λ same. same ≡ self) }
     {
         let Desk {
             recorded,
-            side: _,
+            side,
             journal,
-            of: _,
+            of,
         } = self;
-        let (settings, history) = recorded.into_parts();
-        Closed {
-            history,
-            settings,
-            journal,
-            lost,
+        let mut journal = journal;
+        match end_journal(&mut journal, alloc, recorded.history()) {
+            Ok(()) => Ok(closed_of(recorded, journal, None)),
+            Err(LogFault::NoMemory) => Err(Desk {
+                recorded,
+                side,
+                journal,
+                of,
+            }),
+            Err(fault) => Ok(closed_of(recorded, journal, Some(fault))),
         }
+    }
+}
+
+/// Has all of a history in a journal, where there is one, and its end.
+fn end_journal(
+    journal: &mut Option<TurnLog<HostFile>>,
+    alloc: Global,
+    history: &GrowingHistory,
+) -> Result<(), LogFault>
+    ensures ended { OnOk result (Ends history.now journal.old journal.new) }
+    ensures kept { HasStill history.now journal.old journal.new }
+{
+    match journal {
+        Some(log) => log.end(alloc, history),
+        None => Ok(()),
+    }
+}
+
+/// What is left of a desk with this core and journal, which lacks something for this reason.
+fn closed_of<S: BuildHasher + Drop>(
+    recorded: RecordedCore<S>,
+    journal: Option<TurnLog<HostFile>>,
+    lost: Option<LogFault>,
+) -> Closed
+    ensures history { result.history ≡ recorded.kept }
+    ensures settings { result.settings ≡ recorded.settings }
+    ensures holds { Holds result.settings (turns result.history) }
+    ensures journal { result.journal ≡ journal }
+    ensures lost { result.lost ≡ lost }
+{
+    let (settings, history) = recorded.into_parts();
+    Closed {
+        history,
+        settings,
+        journal,
+        lost,
     }
 }

@@ -2,7 +2,8 @@
 
 use super::no_seed;
 use gateway_run::{
-    Day, DayJournal, RunFault, SettingsFile, audit_day, end_day, end_stopped, run_settings, tell,
+    Day, DayJournal, History, RunFault, Settings, SettingsFile, audit_day, end_day, end_stopped,
+    run_settings, tell,
 };
 use gateway_serve::{Bound, OperatorSettings, serve_day, tell_open_orders};
 use std::alloc::Global;
@@ -144,7 +145,7 @@ where
     };
     let tells_open = asked.tells_open_orders();
     let status = match asked.have(rt, alloc, hasher) {
-        Ok(day) => status_of(rt, alloc, &day, path, tells_open, &mut output, faults),
+        Ok(day) => status_of(rt, alloc, day, path, tells_open, &mut output, faults),
         Err(fault) => tell(fault, faults),
     };
     ExitCode::from(status)
@@ -162,43 +163,78 @@ where
     }
 }
 
-/// Ends a day. The status is as `ended` has it, and 1 where not all of the orders that aren't over could be named.
+/// Ends a day. The status is 0 where all orders agree, its journal has it, where there is one, and all of the orders
+/// that aren't over could be named, where they are to be.
 fn status_of<R: Files<File = File>, W: Write, F: Write>(
     rt: &R,
     alloc: Global,
-    day: &Day,
+    day: Day,
     path: Option<&str>,
     tells_open: bool,
     output: &mut W,
     faults: &mut F,
 ) -> u8 {
-    let status = ended(rt, alloc, day, path, output, faults);
-    if tells_open && !tell_open_orders(alloc, day, faults) {
-        return status.max(1);
+    match path {
+        Some(path) => written_status(rt, alloc, day, path, tells_open, output, faults),
+        None => whole_status(alloc, &day, tells_open, output, faults),
     }
-    status
 }
 
-/// Writes the audit of a day, and looks whether its journal has it, where there is one. The status is 0 where all
-/// orders agree and it has.
-fn ended<R: Files<File = File>, W: Write, F: Write>(
-    rt: &R,
+/// The same of a day whose history is in memory.
+fn whole_status<W: Write, F: Write>(
     alloc: Global,
     day: &Day,
-    path: Option<&str>,
+    tells_open: bool,
     output: &mut W,
     faults: &mut F,
 ) -> u8 {
-    let Some(path) = path else {
-        return audit_day(alloc, day, output, faults);
+    let status = audit_day(alloc, day, output, faults);
+    match day.history() {
+        Some(history) if tells_open => with_open(alloc, history, day.settings(), status, faults),
+        _ => status,
+    }
+}
+
+/// The same of a day with a journal at this path, which is read again.
+fn written_status<R: Files<File = File>, W: Write, F: Write>(
+    rt: &R,
+    alloc: Global,
+    day: Day,
+    path: &str,
+    tells_open: bool,
+    output: &mut W,
+    faults: &mut F,
+) -> u8 {
+    let Ok(file) = bytes_at(rt, alloc, path) else {
+        let status = whole_status(alloc, &day, tells_open, output, faults);
+        let _ = writeln!(faults, "gateway: cannot read {path}");
+        return status.max(1);
     };
-    match bytes_at(rt, alloc, path) {
-        Ok(file) => end_day(alloc, day, file.as_slice(), output, faults),
-        Err(_) => {
-            let audited = audit_day(alloc, day, output, faults);
-            let _ = writeln!(faults, "gateway: cannot read {path}");
-            audited.max(1)
-        }
+    let read = match day.read_again(alloc, file.as_slice()) {
+        Ok(read) => read,
+        Err(fault) => return tell(fault, faults),
+    };
+    drop(file);
+    let status = end_day(alloc, &read, output, faults);
+    if tells_open {
+        with_open(alloc, &read.history, &read.settings, status, faults)
+    } else {
+        status
+    }
+}
+
+/// A status, once the orders that aren't over were named: 1 where not all of them could be.
+fn with_open<F: Write>(
+    alloc: Global,
+    history: &History,
+    settings: &Settings,
+    status: u8,
+    faults: &mut F,
+) -> u8 {
+    if tell_open_orders(alloc, history, settings, faults) {
+        status
+    } else {
+        status.max(1)
     }
 }
 

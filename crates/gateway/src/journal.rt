@@ -83,10 +83,7 @@ fn stopped_day(
             return Err(ExitCode::from(2));
         }
     };
-    let events = match journal.day().events(rt.alloc()) {
-        Ok(events) => events.len(),
-        Err(_) => return Err(out_of_memory(rt)),
-    };
+    let events = journal.day().count();
     let _ = eprintln!(rt; "gateway: journal: {path} {becomes} behind {events} events");
     if torn > 0 {
         let _ = eprintln!(rt;

@@ -44,7 +44,8 @@ impl From<RunFault> for DemoFault {
     fn from(fault: RunFault) -> DemoFault {
         match fault {
             // A demonstration has no journal.
-            RunFault::NoMemory | RunFault::OtherDay(_) | RunFault::LinkUp => DemoFault::NoMemory,
+            RunFault::NoMemory | RunFault::OtherDay(_) | RunFault::LinkUp | RunFault::NoDay =>
+                DemoFault::NoMemory,
             RunFault::NoThread => DemoFault::NoThread,
         }
     }

@@ -1,3 +1,4 @@
+mod Back
 mod Kept
 mod Sent
 mod Stopped

@@ -1,3 +1,4 @@
+pub mod Days
 pub mod Faults
 pub mod Openers
 pub mod Own

@@ -32,7 +32,8 @@ fn pause() -> Duration {
 
 /// The system's time, which never goes back, and pauses of a millisecond. That of the worker that has time pass pauses
 /// between two rounds of ticks, and meanwhile has what may wait written, and rounds made that others left, each
-/// millisecond. Once a second it puts how all stand onto the board. It has a journal synced whose syncs are left for
+/// millisecond. Where there is a journal it has the history's older pages leave memory, until the day is over. Once a
+/// second it puts how all stand onto the board. It has a journal synced whose syncs are left for
 /// later, and watches the clients: it ends the day where they are left alone, where a thread could not be had, say.
 #[derive(Drop)]
 pub(crate) struct RunClock<'a, K: DeskName, R> {
@@ -137,6 +138,9 @@ impl<'a, K: DeskName, R: Wait + time::Clock + Eprint> Watch<'a, K, R> {
             self.is_over.store(true, Ordering::SeqCst);
         }
         self.look();
+        if !self.is_over.load(Ordering::SeqCst) {
+            self.shared.drop_older(self.rt);
+        }
     }
 
     /// Puts how all stand onto the board, where a second has passed since it last was, and has it told of orders that

@@ -57,6 +57,8 @@ pub enum StoppedFault {
 }
 
 impl DayJournal {
+    ghost use Rattle.std.specs.Prelude.{◌≡◌, IfOk};
+    ghost use Rattle.gateway_run.specs.Stopped.{IsStopped};
     ghost use Rattle.host_log.specs.Whole.{HasJust};
 
     /// Of a day that begins, in a file that was made. Takes no memory.
@@ -77,7 +79,9 @@ impl DayJournal {
     pub fn of_stopped(
         alloc: Global,
         stopped: StoppedLog,
-    ) -> Result<(DayJournal, usize), StoppedFault> {
+    ) -> Result<(DayJournal, usize), StoppedFault>
+        ensures { IfOk result (λ read. IsStopped stopped.bytes.items read.0 read.1) }
+    {
         let (day, torn) = read_stopped(alloc, stopped.bytes())?;
         let whole = stopped.bytes().len() - torn;
         match stopped.go_on(whole) {
@@ -98,7 +102,9 @@ impl DayJournal {
         self,
         alloc: Global,
         milliseconds: Option<u64>,
-    ) -> Result<DayJournal, OpenFault> {
+    ) -> Result<DayJournal, OpenFault>
+        ensures { IfOk result (λ same. same ≡ self) }
+    {
         let DayJournal { file, day, .. } = self;
         let (file, later) = file.synced_later(alloc)?;
         let syncs = match milliseconds {

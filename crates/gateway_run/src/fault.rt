@@ -19,6 +19,8 @@ pub enum RunFault {
     OtherDay(u64),
     /// A link is up at the end of a day that nobody serves.
     LinkUp,
+    /// The day isn't in memory, and its journal's file doesn't have it.
+    NoDay,
 }
 
 impl From<AllocError> for RunFault {

@@ -22,9 +22,9 @@ mod sync_timer;
 mod telling;
 mod telling_gate;
 
-pub use audit_lines::{OrderPair, ReadingFault, Settings, audit};
+pub use audit_lines::{History, OrderPair, ReadingFault, Settings, audit};
 pub use by_settings::{end_stopped, run_settings};
-pub use day::{Day, audit_day, end_day, has_day, tell};
+pub use day::{Day, ReadDay, audit_day, end_day, tell};
 pub use day_journal::{DayJournal, StoppedFault};
 pub use ends::{LinkRules, RunPlan};
 pub use fault::RunFault;

@@ -10,7 +10,7 @@ use gate_events::Event;
 use gate_serving::Clock as _;
 use host_log::LaterSync;
 use link_sockets::SystemClock;
-use open_links::open_links;
+use open_links::follow;
 use std::alloc::Global;
 use std::hash::RandomState;
 use std::sync::Wait;
@@ -45,10 +45,12 @@ pub(crate) fn go_on<K: DeskName, R: Wait + Clock>(
     let Some(DayJournal { file, day, .. }) = journal else {
         return Ok(());
     };
-    let events = day.events(alloc)?;
-    let links = open_links(alloc, events.as_slice())?;
-    for event in events {
+    let mut links = Vec::new(alloc);
+    let mut left = day.turns();
+    while let Some((event, _, behind)) = left.split_first(alloc)? {
+        follow(&mut links, &event)?;
         step_again(rt, alloc, shared, inlets, outlets, event)?;
+        left = behind;
     }
     if let Some(place) = shared.go_on(rt, DayLog::over(alloc, file), &day)? {
         return Err(RunFault::OtherDay(place));

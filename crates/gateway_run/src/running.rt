@@ -1,8 +1,9 @@
 //! A desk, served by threads.
 
-ghost use Rattle.std.specs.Prelude.{◌≡◌, ◌<◌, length, IfOk};
+ghost use Rattle.std.specs.Prelude.{◌≡◌, ◌<◌, length, IfOk, None};
 ghost use Rattle.gate_law.specs.Holds.{Holds};
 ghost use Rattle.audit_lines.specs.gate_audit.gate_journal.Kept.{turns};
+ghost use Rattle.desk_gates.specs.desk.Ahead.{IsEnded};
 ghost use Rattle.desk_gates.specs.desk.Settling.{AreSettled};
 
 use crate::counted::{ClientCounts, CountedLinks, LinkStates};
@@ -144,12 +145,7 @@ where
     )?;
     left.end_outlets(pens)?;
     let closed = close_desk(rt, alloc, shared, left.finished)?;
-    Ok(Day::new(
-        closed.history,
-        closed.settings,
-        left.fault,
-        closed.lost.is_some(),
-    ))
+    Ok(Day::of(closed, left.fault))
 }
 
 /// Closes a desk whose ends have finished: of each inlet that is handed in the history has just what was put. Where
@@ -162,6 +158,7 @@ fn close_desk<K: DeskName, R: Clock>(
 ) -> Result<Closed, RunFault>
     ensures holds { IfOk result (λ closed. Holds closed.settings (turns closed.history)) }
     ensures settled { IfOk result (λ closed. AreSettled finished.items closed.history) }
+    ensures ended { IfOk result (λ closed. closed.lost ≡ None → IsEnded closed.history closed.journal) }
 {
     let mut shared = shared;
     let mut finished = finished;

@@ -3,4 +3,4 @@
 
 mod links;
 
-pub use links::{OpenLink, open_links};
+pub use links::{OpenLink, follow};

@@ -1,12 +1,12 @@
 //! The links that were up when a day stopped.
 
-ghost use Rattle.std.specs.Prelude.{◌≡◌, IfOk, OnOk};
+ghost use Rattle.std.specs.Prelude.{◌≡◌, OnOk};
 ghost use Rattle.open_links.specs.declared.links.OpenLink.TheVariants as kinds;
 ghost use Rattle.open_links.specs.Links as spec;
-ghost use Rattle.open_links.specs.Links.{gone_at, open_after, open_in, with_link, without};
+ghost use Rattle.open_links.specs.Links.{gone_at, open_after, with_link, without};
 
 use gate_events::{ClientNumber, Event, PortNumber};
-use std::alloc::{AllocError, Global};
+use std::alloc::AllocError;
 
 /// A link that came up and hasn't gone.
 #[derive(Clone, Copy, Debug, PartialEq, Eq)]
@@ -67,21 +67,9 @@ impl OpenLink {
     }
 }
 
-/// The links that came up in these events and haven't gone, in the order in which they came.
-pub fn open_links(alloc: Global, events: &[Event]) -> Result<Vec<OpenLink>, AllocError>
-    ensures { IfOk result (λ up. up.items ≡ open_in events.now) }
-{
-    let mut up = Vec::new(alloc);
-    let mut rest = events;
-    while let Some((event, behind)) = rest.split_first() {
-        follow(&mut up, event)?;
-        rest = behind;
-    }
-    Ok(up)
-}
-
-/// The open links behind one event more.
-fn follow(up: &mut Vec<OpenLink>, event: &Event) -> Result<(), AllocError>
+/// The links that are up behind one event more: one that comes stands last. `AllocError` may leave out the one that
+/// came.
+pub fn follow(up: &mut Vec<OpenLink>, event: &Event) -> Result<(), AllocError>
     ensures { OnOk result (up.new.items ≡ open_after up.old.items event.now) }
 {
     match event {

@@ -1,17 +1,20 @@
 //! Two days, side by side.
 
 ghost use Rattle.std.specs.Prelude.{MatchOption};
+ghost use Rattle.gate_journal.specs.Cut.{texts};
+ghost use Rattle.gate_journal.specs.Kept.{kept_in};
 ghost use Rattle.same_days.specs.Same.{IsOtherAt, IsSameDay};
 
-use gate_journal::History;
 use journal_days::{DayRecords, Version};
 use same_records::first_difference;
 
-/// `None` where two days have the same events with the same batches, wherever their pages were cut; else how many whole
-/// batches are the same before the first event or batch that differs, or that only one of them has. Takes no memory.
-pub fn first_other(day: &History, other: &History) -> Option<u64>
-    ensures { MatchOption result (IsSameDay day.now other.now) (λ place. IsOtherAt place day.now other.now) }
+/// Of two days that are these pages, of version 2: `None` where they have the same events with the same batches,
+/// wherever their pages were cut; else how many whole batches are the same before the first event or batch that
+/// differs, or that only one of them has. Takes no memory.
+pub fn first_other(day: &[Vec<u8>], other: &[Vec<u8>]) -> Option<u64>
+    ensures { MatchOption result (IsSameDay (kept_in (texts day.now)) (kept_in (texts other.now)))
+        (λ place. IsOtherAt place (kept_in (texts day.now)) (kept_in (texts other.now))) }
 {
-    let records = DayRecords::of(Version::Two, day.pages());
-    first_difference(records, DayRecords::of(Version::Two, other.pages()))
+    let records = DayRecords::of(Version::Two, day);
+    first_difference(records, DayRecords::of(Version::Two, other))
 }

@@ -4,4 +4,3 @@
 mod comparing;
 
 pub use comparing::first_other;
-pub use gate_journal::History;

@@ -1,10 +1,9 @@
 -- A page of all the records that a history has more goes on with a day that has its records so far.
-use Rattle.std.proofs.Common.{◌≡◌, ◌<◌, ◌≤◌, ◌%◌, ◌^◌, ℕ, zero, suc, ◌+◌, Bool, true, false, Option, Some, None, List}
-use Rattle.std.proofs.Common.{[], ◌∷◌, ◌++◌, Vec, length, drop, refl, sym, ap, subst, ◌∙◌, arith, append-nil}
+use Rattle.std.proofs.Common.{◌≡◌, ◌<◌, ◌≤◌, ◌%◌, ◌^◌, ℕ, ◌+◌, Bool, true, false, Option, Some, None, List}
+use Rattle.std.proofs.Common.{[], ◌∷◌, ◌++◌, length, drop, refl, sym, ap, subst, ◌∙◌, arith, append-nil}
 use Rattle.std.proofs.Common.{append_assoc, length-append}
 use Rattle.std.proofs.lemmas.Bool.Decides.{nat_tests}
 use Rattle.std.specs.Prelude.{◌==◌, if◌then◌else◌}
-use Rattle.std.specs.declared.alloc.Global.{Global}
 use Rattle.journal_pages.specs.declared.fault.PageFault.{PageFault}
 use Rattle.journal_pages.specs.declared.fault.PageFault.TheVariants as faults
 use Rattle.journal_pages.specs.declared.place.Place.{Place}
@@ -15,10 +14,10 @@ use Rattle.journal_pages.specs.Ordered.{order_fault, place_behind}
 use Rattle.journal_pages.specs.Page.{page_front, page_number, page_records, records_fault}
 use Rattle.journal_pages.proofs.Listed.{page-made}
 use Rattle.journal_pages.proofs.Numbered.{number-begun}
-use Rattle.journal_days.specs.Cut.{last_size, number_behind, texts}
+use Rattle.journal_days.specs.Cut.{last_size, number_behind}
 use Rattle.journal_days.specs.Day.{at_page, day_fault, day_records, end_fault, fault_from, number_fault, page_behind}
 use Rattle.journal_days.specs.Day.{page_fault_in_day}
-use Rattle.journal_days.proofs.Leading.{From, Goes, Leads, LeadsOn, behind, leads-of, start}
+use Rattle.journal_days.proofs.Leading.{From, Goes, Leads, behind, leads-of, start}
 use Rattle.turn_log.specs.Since.{bytes_from, bytes_of, bytes_since}
 use Rattle.turn_log.proofs.GoesOn.{GoesOn}
 use Rattle.turn_log.proofs.Read.{More, Reads, fault-elsewhere, last-more, less-order, pages-read}
@@ -44,32 +43,26 @@ pages-more p q r page (next ∷ pages) (other ∷ now) l m g =
           ∙ sym (append_assoc (page_records Two page) (day_records Two (next ∷ pages)) later.records);
     }
 
-texts-drop : (n : ℕ) (pages : List (Vec ℕ Global)) → texts (drop n pages) ≡ drop n (texts pages)
-texts-drop zero pages = refl
-texts-drop (suc n) [] = refl
-texts-drop (suc n) (page ∷ pages) = texts-drop n pages
-
-pub history-more : (before : List (List ℕ)) (pages : List (Vec ℕ Global)) → day_fault Two before ≡ None
-    → day_fault Two (texts pages) ≡ None → GoesOn before (texts pages)
-    → More BetweenBatches (bytes_since (length before) (last_size before) pages) (day_records Two before)
-    (day_records Two (texts pages)) BetweenBatches
-history-more [] pages old new g =
-    let on = leads-of Two (texts pages) new in
+pub history-more : (before now : List (List ℕ)) → day_fault Two before ≡ None → day_fault Two now ≡ None
+    → GoesOn before now
+    → More BetweenBatches (bytes_since (length before) (last_size before) now) (day_records Two before)
+    (day_records Two now) BetweenBatches
+history-more [] now old new g =
+    let on = leads-of Two now new in
     record {
-      records = day_records Two (texts pages);
-      reads = subst (λ (z : Place). Reads BetweenBatches (bytes_of (texts pages)) (day_records Two (texts pages)) z)
-          on.closed (pages-read start on.to (texts pages) on.leads);
+      records = day_records Two now;
+      reads = subst (λ (z : Place). Reads BetweenBatches (bytes_of now) (day_records Two now) z) on.closed
+          (pages-read start on.to now on.leads);
       all = refl;
     }
-history-more (page ∷ more) pages old new g =
+history-more (page ∷ more) now old new g =
     let from = leads-of Two (page ∷ more) old in
-    let on = leads-of Two (texts pages) new in
-    let all = pages-more start from.to on.to page more (texts pages) from.leads on.leads g in
-    let bytes = texts-drop (length more) pages in
-    rw bytes (subst (λ (z : Place). More z (bytes_from (last_size (page ∷ more)) (drop (length more) (texts pages)))
-    (day_records Two (page ∷ more)) (day_records Two (texts pages)) BetweenBatches) from.closed
-    (subst (λ (z : Place). More from.to.place (bytes_from (last_size (page ∷ more)) (drop (length more) (texts pages)))
-    (day_records Two (page ∷ more)) (day_records Two (texts pages)) z) on.closed all))
+    let on = leads-of Two now new in
+    let all = pages-more start from.to on.to page more now from.leads on.leads g in
+    subst (λ (z : Place). More z (bytes_from (last_size (page ∷ more)) (drop (length more) now))
+    (day_records Two (page ∷ more)) (day_records Two now) BetweenBatches) from.closed
+    (subst (λ (z : Place). More from.to.place (bytes_from (last_size (page ∷ more)) (drop (length more) now))
+    (day_records Two (page ∷ more)) (day_records Two now) z) on.closed all)
 
 -- ---- numbers
 
@@ -88,7 +81,7 @@ same-number : (n m : ℕ) → n ≡ m → (n == m) ≡ true
 same-number n m e = grind (arith, nat_tests, e)
 
 -- the number of the page behind is how many records there are
-records-count : (p q : From) (pages : List (List ℕ)) → Leads Two p pages q → p.number < 2 ^ 64
+pub records-count : (p q : From) (pages : List (List ℕ)) → Leads Two p pages q → p.number < 2 ^ 64
     → q.number ≡ (p.number + length (day_records Two pages)) % 2 ^ 64
 records-count p q [] l few =
     let same : p.number ≡ q.number = ap (λ (x : From). x.number) l in

@@ -1,10 +1,10 @@
 -- Pages with more records behind are the pages, the last of them with more bytes perhaps, and more pages behind.
-use Rattle.std.proofs.Common.{◌≡◌, ℕ, zero, suc, ◌+◌, Bool, true, false, List, [], ◌∷◌, ◌++◌, length, refl, sym, ap}
+use Rattle.std.proofs.Common.{◌≡◌, ℕ, Bool, true, false, List, [], ◌∷◌, ◌++◌, length, refl, sym, ap}
 use Rattle.std.proofs.Common.{subst, ◌∙◌, arith, append-nil, append_assoc, length-append}
 use Rattle.std.specs.Prelude.{if◌then◌else◌}
 use mathlib.Core.List.{IsPrefix}
 use Rattle.journal_pages.specs.Record.{Record}
-use Rattle.journal_days.specs.Cut.{IsMoreOf, has_room, last_size, last_with, number_behind, page_with, record_text}
+use Rattle.journal_days.specs.Cut.{IsMoreOf, has_room, last_size, number_behind, page_with, record_text}
 use Rattle.journal_days.specs.Cut.{with_records, with_text}
 
 abbrev pub GoesOn : List (List ℕ) → List (List ℕ) → Type 0

@@ -1,16 +1,14 @@
 -- What a log has of a history, before and after a page.
 use Rattle.std.proofs.Common.{◌≡◌, ◌<◌, ◌≤◌, ◌%◌, ◌^◌, ℕ, ◌+◌, Option, Some, None, Result, Ok, Err, OnErr, true, List}
-use Rattle.std.proofs.Common.{[], ◌∷◌, ◌++◌, Vec, length, refl, sym, ap, subst, ◌∙◌, arith, append-nil, length-append}
+use Rattle.std.proofs.Common.{[], ◌∷◌, ◌++◌, length, refl, sym, ap, subst, ◌∙◌, arith, append-nil, length-append}
 use Rattle.std.specs.Prelude.{◌==◌, ◌&&◌, IsErrOf, OnOk}
 use Rattle.std.proofs.lemmas.Bool.{and_parts}
 use Rattle.std.proofs.lemmas.Bool.Decides.{nat_tests}
-use Rattle.std.proofs.lemmas.List.{length-map}
-use Rattle.std.specs.declared.alloc.Global.{Global}
 use Rattle.journal_pages.specs.declared.place.Place.TheVariants.{BetweenBatches}
 use Rattle.journal_pages.specs.declared.version.Version.TheVariants.{Two}
 use Rattle.journal_pages.specs.Record.{Record, records_in}
 use Rattle.journal_pages.specs.Page.{page_front, page_records}
-use Rattle.journal_days.specs.Cut.{IsMoreOf, last_size, texts}
+use Rattle.journal_days.specs.Cut.{IsMoreOf, last_size}
 use Rattle.journal_days.specs.Day.{day_fault, day_records}
 use Rattle.day_log.specs.File.{sized_pages}
 use Rattle.day_log.specs.Log.{IsSettled, LeavesAtLeast}
@@ -18,7 +16,7 @@ use Rattle.day_log.specs.State.{LogState}
 use Rattle.day_log.specs.declared.fault.LogFault.{LogFault}
 use Rattle.day_log.specs.declared.fault.LogFault.TheVariants.{Ended, Failed, NoMemory}
 use Rattle.turn_log.specs.Since.{bytes_since}
-use Rattle.turn_log.specs.Kept.{AreOf, HasAll, HasDay, HasPages, LeavesAll, StandsAt, TurnLogState}
+use Rattle.turn_log.specs.Kept.{AreOf, HasAll, HasDay, HasPages, TurnLogState}
 use Rattle.turn_log.proofs.GoesOn.{more-goes-on, same-end}
 use Rattle.turn_log.proofs.Read.{More}
 use Rattle.turn_log.proofs.Behind.{history-more, page-behind}
@@ -132,29 +130,27 @@ module _ {F : Type 0} (seen : F → List ℕ) (may_leave : F → List ℕ → Ty
   same-all before now file same all = record
       { pages = all.pages; of = of-same before now all.pages same all.of; settled = all.settled }
 
-  module _ (before : List (List ℕ)) (pages : List (Vec ℕ Global)) (page : List ℕ) (old : TurnLogState F) (file : F)
-      (shut : Option LogFault)
-      (has : HasDay seen may_leave before old) (more : IsMoreOf before (texts pages))
-      (day : day_fault Two (texts pages) ≡ None)
-      (is : page ≡ page_front old.records ++ bytes_since old.pages old.bytes pages)
+  module _ (before now : List (List ℕ)) (page : List ℕ) (old : TurnLogState F) (file : F) (shut : Option LogFault)
+      (has : HasDay seen may_leave before old) (more : IsMoreOf before now) (day : day_fault Two now ≡ None)
+      (is : page ≡ page_front old.records ++ bytes_since old.pages old.bytes now)
       (none : length page ≤ 12 → (file ≡ old.file) × (shut ≡ old.shut))
       (some : 12 < length page → (ps : List (List ℕ)) → IsSettled seen may_leave ps old.file
       → IsSettled seen may_leave (ps ++ page ∷ []) file)
       (goes_on : 12 < length page → (old.shut ≡ None) × (shut ≡ None)) where
     abbrev bytes : List ℕ
-    bytes = bytes_since (length before) (last_size before) pages
+    bytes = bytes_since (length before) (last_size before) now
 
-    found : More BetweenBatches bytes (day_records Two before) (day_records Two (texts pages)) BetweenBatches
-    found = history-more before pages has.mark.day day (more-goes-on before (texts pages) more)
+    found : More BetweenBatches bytes (day_records Two before) (day_records Two now) BetweenBatches
+    found = history-more before now has.mark.day day (more-goes-on before now more)
 
     page-is : page ≡ page_front old.records ++ bytes
     page-is =
-        is ∙ ap (λ n. page_front old.records ++ bytes_since n old.bytes pages) has.mark.pages
-        ∙ ap (λ n. page_front old.records ++ bytes_since (length before) n pages) has.mark.bytes
+        is ∙ ap (λ n. page_front old.records ++ bytes_since n old.bytes now) has.mark.pages
+        ∙ ap (λ n. page_front old.records ++ bytes_since (length before) n now) has.mark.bytes
 
     -- what is added, and how many records it has
     record Added : Type 0 where
-      kept : HasPages seen may_leave (texts pages) file shut
+      kept : HasPages seen may_leave now file shut
       count : length (page_records Two page) ≡ length found.records
 
     own : page_records Two page ≡ found.records
@@ -169,11 +165,11 @@ module _ {F : Type 0} (seen : F → List ℕ) (may_leave : F → List ℕ → Ty
         let count : length bytes ≡ 0 = ap length empty in
         let same = none (omega (arith, size, count)) in
         let nothing : found.records ≡ [] = sym found.reads.records ∙ ap records_in empty in
-        let records : day_records Two (texts pages) ≡ day_records Two before =
+        let records : day_records Two now ≡ day_records Two before =
         found.all ∙ ap (λ (l : List Record). day_records Two before ++ l) nothing ∙ append-nil (day_records Two before)
         in
         record {
-          kept = rw (same.0, same.1) (same-pages before (texts pages) old.file old.shut records has.has);
+          kept = rw (same.0, same.1) (same-pages before now old.file old.shut records has.has);
           count =
               ap length own;
         }
@@ -185,23 +181,23 @@ module _ {F : Type 0} (seen : F → List ℕ) (may_leave : F → List ℕ → Ty
         let number : old.records ≡ length (day_records Two all.pages) % 2 ^ 64 = has.mark.records
         ∙ ap (λ (l : List Record). length l % 2 ^ 64) (sym all.of.same) in
         let made = page-behind all.pages old.records bytes found.records all.of.day number few found.reads in
-        let of : AreOf (texts pages) (all.pages ++ page ∷ []) = record {
+        let of : AreOf now (all.pages ++ page ∷ []) = record {
           day = ap (λ (l : List ℕ). day_fault Two (all.pages ++ l ∷ [])) page-is ∙ made.day;
           same = ap (λ (l : List ℕ). day_records Two (all.pages ++ l ∷ [])) page-is ∙ made.records
               ∙ ap (λ (l : List Record). l ++ found.records) all.of.same ∙ sym found.all;
         } in
-        let now : HasAll seen may_leave (texts pages) file =
+        let held : HasAll seen may_leave now file =
         record { pages = all.pages ++ page ∷ []; of = of; settled = some long all.pages all.settled } in
-        record { kept = all-has (texts pages) file shut now; count = ap length own }
+        record { kept = all-has now file shut held; count = ap length own }
 
     added : (l : List ℕ) → bytes ≡ l → Added
     added [] e = of-none e
     added (b ∷ l) e = of-some (let many = ap length e in omega (arith, many))
 
-    pub put-day : (new : TurnLogState F) → new.file ≡ file → new.shut ≡ shut → new.pages ≡ length pages
-        → new.bytes ≡ last_size (texts pages)
+    pub put-day : (new : TurnLogState F) → new.file ≡ file → new.shut ≡ shut → new.pages ≡ length now
+        → new.bytes ≡ last_size now
         → new.records ≡ (old.records + length (page_records Two page) % 2 ^ 64) % 2 ^ 64
-        → HasDay seen may_leave (texts pages) new
+        → HasDay seen may_leave now new
     put-day new the-file the-shut the-pages the-bytes the-records =
         let it = added bytes refl in
         let all = ap length found.all in
@@ -209,7 +205,7 @@ module _ {F : Type 0} (seen : F → List ℕ) (may_leave : F → List ℕ → Ty
         record {
           mark = record {
             day = day;
-            pages = the-pages ∙ sym (length-map pages (λ (v : Vec ℕ Global). v.items));
+            pages = the-pages;
             bytes = the-bytes;
             records = omega (arith, the-records, has.mark.records, it.count, all, many);
           };

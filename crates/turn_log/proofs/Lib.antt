@@ -1,4 +1,5 @@
 mod GoesOn
 mod Read
 mod Behind
+mod Recent
 pub mod Keeping

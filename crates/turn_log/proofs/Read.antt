@@ -1,9 +1,8 @@
 -- Bytes that are read as records in order, wherever pages were cut between them.
-use Rattle.std.proofs.Common.{◌≡◌, ◌≤◌, ℕ, zero, suc, ◌+◌, Option, Some, None, List, [], ◌∷◌, ◌++◌, length, drop, refl}
-use Rattle.std.proofs.Common.{sym, ap, ◌∙◌, arith, append-nil, append_assoc}
+use Rattle.std.proofs.Common.{◌≡◌, ◌≤◌, ℕ, zero, suc, None, List, [], ◌∷◌, ◌++◌, length, drop, refl}
+use Rattle.std.proofs.Common.{sym, ap, ◌∙◌, append-nil, append_assoc}
 use Rattle.std.proofs.lemmas.List.{drop-append-le, drop_at}
 use mathlib.Core.List.{IsPrefix}
-use Rattle.journal_pages.specs.declared.fault.PageFault.{PageFault}
 use Rattle.journal_pages.specs.declared.place.Place.{Place}
 use Rattle.journal_pages.specs.declared.place.Place.TheVariants.{PageStart}
 use Rattle.journal_pages.specs.declared.version.Version.TheVariants.{Two}
@@ -11,14 +10,12 @@ use Rattle.journal_pages.specs.Record.{Front, Record, Refused, Stands, front, re
 use Rattle.journal_pages.specs.Record.{records_of_front, size_of}
 use Rattle.journal_pages.specs.Ordered.{order_fault, place_behind}
 use Rattle.journal_pages.specs.Page.{fault_at, fault_by_looks, fault_of_front, page_records, place_after, records_fault}
-use Rattle.journal_pages.specs.Page.{unless}
 use Rattle.journal_pages.proofs.Further.{goes-on}
 use Rattle.journal_pages.proofs.Listed.{both-none, page-parts}
 use Rattle.journal_days.proofs.Leading.{From, Goes, Leads, behind}
 use Rattle.journal_days.proofs.Places.{behind-both, less-after, less-fault, order-both, Less}
 use Rattle.journal_days.specs.Day.{day_records}
-use Rattle.turn_log.specs.Since.{bytes_from, bytes_of}
-use Rattle.turn_log.proofs.GoesOn.{GoesOn}
+use Rattle.turn_log.specs.Since.{bytes_of}
 
 -- ---- the same records behind another place
 

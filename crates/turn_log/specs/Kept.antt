@@ -4,7 +4,7 @@ use Rattle.std.specs.Prelude.{◌≡◌, ◌%◌, ◌^◌, ℕ, List, Option, No
 use Rattle.journal_pages.specs.declared.version.Version.TheVariants.{Two}
 use Rattle.journal_days.specs.Cut.{last_size}
 use Rattle.journal_days.specs.Day.{day_fault, day_records}
-use Rattle.day_log.specs.Log.{IsSettled, LeavesAtLeast}
+use Rattle.day_log.specs.Log.{IsEnded, IsSettled, LeavesAtLeast}
 use Rattle.day_log.specs.declared.fault.LogFault.{LogFault}
 
 -- its file, why it takes no more, if it doesn't, and its mark: how many pages of the history it has, how many bytes of
@@ -22,6 +22,11 @@ pub record StandsAt {F : Type 0} (history : List (List ℕ)) (log : TurnLogState
   pub pages : log.pages ≡ length history
   pub bytes : log.bytes ≡ last_size history
   pub records : log.records ≡ length (day_records Two history) % 2 ^ 64
+
+-- the mark stands where a history ends that goes on with what the log has
+pub record EndsAt {F : Type 0} (history : List (List ℕ)) (log : TurnLogState F) : Type 0 where
+  pub pages : length history ≡ log.pages
+  pub bytes : last_size history ≡ log.bytes
 
 -- pages of a day with the records of a history, wherever they are cut
 pub record AreOf (history pages : List (List ℕ)) : Type 0 where
@@ -50,3 +55,9 @@ module _ {F : Type 0} (seen : F → List ℕ) (may_leave : F → List ℕ → Ty
   pub record HasDay (history : List (List ℕ)) (log : TurnLogState F) : Type 0 where
     pub mark : StandsAt history log
     pub has : HasPages history log.file log.shut
+
+  -- the file is a history and an end, all of it durable
+  pub record HasEnd (history : List (List ℕ)) (file : F) : Type 0 where
+    pub pages : List (List ℕ)
+    pub of : AreOf history pages
+    pub ended : IsEnded seen may_leave pages file

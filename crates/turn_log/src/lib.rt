@@ -6,5 +6,5 @@ mod log;
 mod mark;
 
 pub use day_log::{DayLog, LogFault, LogFile};
-pub use gate_journal::History;
+pub use gate_journal::GrowingHistory;
 pub use log::TurnLog;

@@ -1,15 +1,17 @@
 //! The log.
 
-ghost use Rattle.std.specs.Prelude.{◌≡◌, ◌<◌, ◌≤◌, ◌++◌, ◌∷◌, [], IsErrOf, List, None, OnErr, OnOk, Some, length, ℕ};
+ghost use Rattle.std.specs.Prelude.{◌≡◌, ◌⊎◌, ◌<◌, ◌≤◌, ◌++◌, ◌∷◌, [], List, length, true, ℕ};
+ghost use Rattle.std.specs.Prelude.{IsErrOf, None, OnErr, OnOk, Some};
 ghost use Rattle.day_log.specs.declared.fault.LogFault.TheVariants.{Ended, Failed};
 ghost use Rattle.gate_journal.specs.Kept.{kept_in};
 ghost use Rattle.journal_days.specs.Cut.{IsMoreOf};
 ghost use Rattle.day_log.specs.Log.{IsSettled};
-ghost use Rattle.turn_log.specs.Kept.{HasDay, HasPages, StandsAt};
+ghost use Rattle.turn_log.specs.Kept.{EndsAt, HasDay, HasEnd, HasPages, StandsAt};
 
-use crate::mark::{FRONT, Mark, count_in_page, count_in_pages, mark_at, page_since};
+use crate::mark::{FRONT, Mark, count_before, count_in_page, mark_at, page_since};
 use day_log::{DayLog, LogFault, LogFile};
-use gate_journal::History;
+use gate_journal::{GrowingHistory, RecentPages};
+use journal_days::next_number;
 use std::alloc::Global;
 use std::marker::Model;
 
@@ -36,25 +38,33 @@ impl<F: LogFile> Model for TurnLog<F> {
 
 impl<F: LogFile> TurnLog<F> {
     /// The log of a history of which it has all so far. Takes no memory.
-    pub fn of(log: DayLog<F>, history: &History) -> TurnLog<F>
+    pub fn of(log: DayLog<F>, history: &GrowingHistory) -> TurnLog<F>
         ensures file { result.file ≡ log.file }
         ensures shut { result.shut ≡ log.shut }
         ensures mark { StandsAt history.now.pages result }
         ensures history { history.now ≡ kept_in history.now.pages }
     {
-        let pages = history.pages();
+        let RecentPages { left, pages } = history.recent();
         TurnLog {
             log,
-            mark: mark_at(pages, count_in_pages(pages)),
+            mark: mark_at(left, pages, next_number(pages)),
         }
+    }
+
+    /// Whether the log has all of a history, where it has its beginning.
+    pub fn has_all(&self, history: &GrowingHistory) -> bool
+        ensures { result ≡ true → EndsAt history.now.pages self.now }
+    {
+        let RecentPages { left, pages } = history.recent();
+        mark_at(left, pages, self.mark.records) == self.mark
     }
 
     /// Has in the log, durably, all that the history has: as one page what the log didn't have yet, nothing where it
     /// has all. A history that is handed in has what that of the call before had, and more records behind.
     ///
-    /// `Failed` where the file fails, and from then on; `NoMemory` leaves the log as it was. Whatever it answers, each
-    /// crash leaves what the log had.
-    pub fn keep(&mut self, alloc: Global, history: &History) -> Result<(), LogFault>
+    /// `Failed` where the file fails, and from then on; `NoMemory` leaves the log as it was, and comes also where pages
+    /// left memory that the log doesn't have. Whatever it answers, each crash leaves what the log had.
+    pub fn keep(&mut self, alloc: Global, history: &GrowingHistory) -> Result<(), LogFault>
         ensures told { OnOk result ((before : List (List ℕ)) → HasDay F.seen F.may_leave before self.old
             → IsMoreOf before history.now.pages → HasDay F.seen F.may_leave history.now.pages self.new) }
         ensures kept { OnErr result ((before : List (List ℕ)) → HasDay F.seen F.may_leave before self.old
@@ -62,30 +72,38 @@ impl<F: LogFile> TurnLog<F> {
         ensures failed { IsErrOf result Failed → self.new.shut ≡ Some Failed }
         ensures history { history.now ≡ kept_in history.now.pages }
     {
-        let pages = history.pages();
-        if mark_at(pages, self.mark.records) == self.mark {
+        let RecentPages { left, pages } = history.recent();
+        if self.has_all(history) {
             return Ok(());
         }
-        let page = page_since(alloc, pages, &self.mark)?;
+        let Some(count) = count_before(&self.mark, left) else {
+            return Err(LogFault::NoMemory);
+        };
+        let page = page_since(alloc, pages, count, &self.mark)?;
         put_page(&mut self.log, page.as_slice())?;
         let records = self
             .mark
             .records
             .wrapping_add(count_in_page(page.as_slice()));
-        self.mark = mark_at(pages, records);
+        self.mark = mark_at(left, pages, records);
         Ok(())
     }
 
-    /// Adds the end of a day that is over; the log takes nothing behind it. It has to have all of the history.
+    /// Has in the log all that the history has, as `keep` does, and behind it the end of a day that is over; the log
+    /// takes nothing behind that.
     ///
-    /// `Failed` where the file fails, and from then on; `NoMemory` leaves the log as it was. Whatever it answers, each
-    /// crash leaves what the log had.
-    pub fn end(&mut self) -> Result<(), LogFault>
+    /// `Failed` where the file fails, and from then on. Whatever it answers, each crash leaves what the log had.
+    pub fn end(&mut self, alloc: Global, history: &GrowingHistory) -> Result<(), LogFault>
+        ensures told { OnOk result ((before : List (List ℕ)) → HasDay F.seen F.may_leave before self.old
+            → IsMoreOf before history.now.pages → HasEnd F.seen F.may_leave history.now.pages self.new.file) }
         ensures ended { OnOk result (self.new.shut ≡ Some Ended) }
         ensures failed { IsErrOf result Failed → self.new.shut ≡ Some Failed }
         ensures kept { (before : List (List ℕ)) → HasDay F.seen F.may_leave before self.old
-            → HasDay F.seen F.may_leave before self.new }
+            → IsMoreOf before history.now.pages → HasDay F.seen F.may_leave before self.new
+            ⊎ HasDay F.seen F.may_leave history.now.pages self.new }
+        ensures history { history.now ≡ kept_in history.now.pages }
     {
+        self.keep(alloc, history)?;
         self.log.end()
     }
 }

@@ -1,12 +1,12 @@
 //! How far a history is in its log.
 
-ghost use Rattle.std.specs.Prelude.{◌≡◌, ◌%◌, ◌^◌, ◌++◌, drop, length, IfOk, OnOk};
-ghost use Rattle.journal_days.specs.Cut.{last_size, texts};
-ghost use Rattle.journal_days.specs.Day.{day_records};
+ghost use Rattle.std.specs.Prelude.{◌≡◌, ◌%◌, ◌^◌, ◌+◌, ◌++◌, drop, length, IfOk, IfSome, OnOk};
+ghost use Rattle.journal_days.specs.Cut as spec;
+ghost use Rattle.journal_days.specs.Cut.{texts};
 ghost use Rattle.journal_pages.specs.Page.{page_front, page_records};
 ghost use Rattle.journal_pages.specs.Seen.{records_ahead};
 ghost use Rattle.journal_pages.specs.declared.version.Version.TheVariants.{Two};
-ghost use Rattle.turn_log.specs.Since.{bytes_from, bytes_of, bytes_since};
+ghost use Rattle.turn_log.specs.Since.{IsBefore, bytes_from, bytes_of, bytes_since};
 
 use journal_pages::Records;
 use std::alloc::{AllocError, Global};
@@ -21,39 +21,46 @@ pub(crate) const FRONT: usize = 12;
 /// records all of them.
 #[derive(Clone, Copy, Debug, PartialEq, Eq)]
 pub(crate) struct Mark {
-    pub pages: usize,
+    /// Wide enough for any pages, in memory or not.
+    pub pages: u128,
     pub bytes: usize,
     pub records: u64,
 }
 
-/// Where these pages end, behind so many records. Takes no memory.
-pub(crate) fn mark_at(pages: &[Vec<u8>], records: u64) -> Mark
-    ensures pages { result.pages ≡ length pages.now }
-    ensures bytes { result.bytes ≡ last_size (texts pages.now) }
+/// Where these pages end, of which so many aren't in memory, behind so many records. Takes no memory.
+pub(crate) fn mark_at(left: usize, pages: &[Vec<u8>], records: u64) -> Mark
+    ensures pages { result.pages ≡ left + length pages.now }
+    ensures bytes { result.bytes ≡ spec.last_size (texts pages.now) }
     ensures records { result.records ≡ records }
 {
-    let bytes = match pages.last() {
-        Some(last) => last.as_slice().len(),
-        None => 0,
-    };
     Mark {
-        pages: pages.len(),
-        bytes,
+        pages: left as u128 + pages.len() as u128,
+        bytes: last_size(pages),
         records,
     }
 }
 
-/// How many records these pages have, as a number of 64 bits. Takes no memory.
-pub(crate) fn count_in_pages(pages: &[Vec<u8>]) -> u64
-    ensures { result ≡ length (day_records Two (texts pages.now)) % 2 ^ 64 }
+/// How many bytes the last page has, 0 where there is none.
+fn last_size(pages: &[Vec<u8>]) -> usize
+    ensures { result ≡ spec.last_size (texts pages.now) }
 {
-    let mut rest = pages;
-    let mut count = 0u64;
-    while let Some((page, behind)) = rest.split_first() {
-        count = count.wrapping_add(count_in_page(page.as_slice()));
-        rest = behind;
+    match pages.last() {
+        Some(last) => last.as_slice().len(),
+        None => 0,
     }
-    count
+}
+
+/// How many of the pages in memory stand in front of a mark; `None` where the page that it stands in isn't in memory.
+pub(crate) fn count_before(mark: &Mark, left: usize) -> Option<usize>
+    ensures { IfSome result (λ count. IsBefore left mark.now.pages count) }
+{
+    if left == 0 {
+        return usize::try_from(mark.pages).ok();
+    }
+    if mark.pages <= left as u128 {
+        return None;
+    }
+    usize::try_from(mark.pages - left as u128).ok()
 }
 
 /// How many records a page has, as a number of 64 bits. Takes no memory.
@@ -79,19 +86,20 @@ fn count_of(records: Records<'_>) -> u64
     count
 }
 
-/// A page of the records that these pages have behind a mark.
+/// A page of the records that these pages have behind a mark, in front of which so many of them stand.
 pub(crate) fn page_since(
     alloc: Global,
     pages: &[Vec<u8>],
+    count: usize,
     mark: &Mark,
 ) -> Result<Vec<u8>, AllocError>
     ensures { IfOk result (λ page. page.items
-        ≡ page_front mark.now.records ++ bytes_since mark.now.pages mark.now.bytes pages.now) }
+        ≡ page_front mark.now.records ++ bytes_since count mark.now.bytes (texts pages.now)) }
 {
     let mut page = Vec::new(alloc);
     page.extend_from_slice(PAGE_NAME)?;
     page.extend_from_slice(&mark.records.to_be_bytes())?;
-    append_since(&mut page, pages, mark.pages, mark.bytes)?;
+    append_since(&mut page, pages, count, mark.bytes)?;
     Ok(page)
 }
 
@@ -102,7 +110,7 @@ fn append_since(
     count: usize,
     bytes: usize,
 ) -> Result<(), AllocError>
-    ensures { OnOk result (out.new.items ≡ out.old.items ++ bytes_since count bytes pages.now) }
+    ensures { OnOk result (out.new.items ≡ out.old.items ++ bytes_since count bytes (texts pages.now)) }
 {
     if count == 0 {
         return append_pages(out, pages);

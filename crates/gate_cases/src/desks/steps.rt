@@ -254,8 +254,10 @@ fn close<K: DeskName>(
     shown: &mut Vec<u8>,
 ) -> Result<(), AllocError> {
     let finished = finished_of(alloc, inlets, outlets)?;
-    let history = history_of(alloc, shared, finished)?;
-    count_events(alloc, &history, shown)
+    match history_of(alloc, shared, finished)? {
+        Some(history) => count_events(alloc, &history, shown),
+        None => show(shown, "events in memory", 0),
+    }
 }
 
 /// Shows how many events a history has, and of whom.
@@ -287,12 +289,12 @@ fn finished_of<K: DeskName>(
     Ok(finished)
 }
 
-/// The history of a desk that is closed, once more where memory ran out.
+/// The history of a desk that is closed, once more where memory ran out, if all of it is in memory.
 fn history_of<K: DeskName>(
     alloc: Global,
     shared: Shared<K>,
     finished: Vec<Finished<K>>,
-) -> Result<History, AllocError> {
+) -> Result<Option<History>, AllocError> {
     match shared.close(alloc, finished) {
         Ok(closed) => Ok(kept_by(closed)),
         Err((_, shared, finished)) => match shared.close(alloc, finished) {
@@ -302,13 +304,13 @@ fn history_of<K: DeskName>(
     }
 }
 
-/// The history that a closed desk kept.
-fn kept_by(closed: Closed) -> History {
+/// The history that a closed desk kept, if all of it is in memory.
+fn kept_by(closed: Closed) -> Option<History> {
     let Closed {
         history,
         settings: _,
         journal: _,
         lost: _,
     } = closed;
-    history
+    history.into_whole().ok()
 }

@@ -1,10 +1,10 @@
 use Rattle.std.proofs.Common.{◌≡◌, ◌+◌, ◌-◌, ◌≤◌, List, ℕ, Vec, length, sym, ap, ◌∙◌, arith}
 use Rattle.std.specs.declared.alloc.Global.{Global}
 use Rattle.journal_days.proofs.Cutting.{last-sized, some-pages}
-use Rattle.turn_log.proofs.mark.mark_at.Goals as goal
+use Rattle.turn_log.proofs.mark.last_size.Goals as goal
 
-pub returns-in-Some-clause-bytes : goal.returns-in-Some-clause-bytes
-returns-in-Some-clause-bytes c =
+pub returns-in-Some : goal.returns-in-Some
+returns-in-Some c =
     let pages : List (Vec ℕ Global) = c.args.pages.now in
     let some : 1 ≤ length pages = some-pages pages c.in-Some.last.now (length pages - 1) c.in-Some.ensures.value in
     let last : (length pages - 1) + 1 ≡ length pages = omega (arith, some) in

@@ -1,0 +1,11 @@
+-- The open links behind the events so far lead to those behind all.
+use Rattle.std.proofs.Common.{◌≡◌, length}
+use Rattle.gate_journal.specs.Left.{events_left}
+use Rattle.open_links.specs.Links.{open_behind, open_in}
+use Rattle.gateway_run.proofs.day.is_nobody_up.Given as goal
+
+abbrev pub invariant-loop-links : goal.invariant-loop-links
+invariant-loop-links l = open_behind l.links.items (events_left l.left) ≡ open_in l.day.kept.events
+
+abbrev pub decreases-loop-links : goal.decreases-loop-links
+decreases-loop-links l = length (events_left l.left)
