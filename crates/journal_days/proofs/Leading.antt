@@ -1,7 +1,7 @@
 -- Pages that lead from a place to a place: each is a page, has its number, and its records stand behind those before.
 -- Records that may stand behind them lead further.
 use Rattle.std.proofs.Common.{inl, inr, ◌≡◌, ◌<◌, ◌≤◌, ◌+◌, ◌%◌, ◌^◌, ℕ, true, false, Bool, Option, Some, None, List}
-use Rattle.std.proofs.Common.{[], ◌∷◌, ◌++◌, length, drop, refl, sym, ap, subst, ◌∙◌, arith, append_assoc, append-nil}
+use Rattle.std.proofs.Common.{[], ◌∷◌, ◌++◌, length, drop, refl, sym, ap, ◌∙◌, arith, append_assoc, append-nil}
 use Rattle.std.proofs.Common.{length-append}
 use Rattle.std.proofs.lemmas.Bool.Decides.{nat_tests}
 use Rattle.std.proofs.lemmas.List.{drop-append-le, take-append-le}
@@ -20,7 +20,7 @@ use Rattle.journal_pages.proofs.Further.{goes-on, one-record}
 use Rattle.journal_pages.proofs.Listed.{both-none, page-made, page-parts, written-alone, written-front}
 use Rattle.journal_pages.proofs.Numbered.{number-begun, number-kept}
 use Rattle.journal_days.specs.Cut.{has_room, number_behind, page_with, record_text, with_records, with_text}
-use Rattle.journal_days.specs.Day.{day_fault, day_records, end_fault, fault_from, is_last, number_fault, page_behind}
+use Rattle.journal_days.specs.Day.{day_fault, day_records, end_fault, fault_from, number_fault, page_behind}
 use Rattle.journal_days.specs.Day.{at_page, page_fault_in_day}
 use Rattle.journal_days.proofs.Cutting.{text-is}
 use Rattle.journal_days.proofs.Places.{behind-both, less-behind, less-fault, order-both}
@@ -69,7 +69,7 @@ counted r front back is =
 text-stands : (r : Record) → IsWritable r → front (record_text r) ≡ Stands r
 text-stands r good = ap front (sym (text-is r)) ∙ written-front r good.source good.link good.at good.sound
 
-text-listed : (r : Record) → IsWritable r → records_in (record_text r) ≡ r ∷ []
+pub text-listed : (r : Record) → IsWritable r → records_in (record_text r) ≡ r ∷ []
 text-listed r good = ap records_in (sym (text-is r)) ∙ written-alone r good.source good.link good.at good.sound
 
 text-none : (p : Place) (r : Record) → IsWritable r → fault_at p r ≡ None → records_fault p (record_text r) ≡ None
@@ -146,10 +146,10 @@ same-from a b x y e f = cc
 order-one : (p : Place) (r : Record) → fault_at p r ≡ None → order_fault p (r ∷ []) ≡ None
 order-one p r none = ap (λ (f : Option PageFault). unless f None) none
 
-small-number : (page : List ℕ) → number_behind page < 2 ^ 64
+pub small-number : (page : List ℕ) → number_behind page < 2 ^ 64
 small-number page = omega arith
 
-begun : (n : ℕ) (r : Record) → n < 2 ^ 64 → IsWritable r
+pub begun : (n : ℕ) (r : Record) → n < 2 ^ 64 → IsWritable r
     → number_behind (page_with n (record_text r)) ≡ (n + 1) % 2 ^ 64
 begun n r few good =
     let number = number-begun n (record_text r) few in
@@ -239,7 +239,7 @@ one-more p (page ∷ next ∷ pages) q r from l good none =
           ∙ sym (append_assoc (page_records Two page) (day_records Two (next ∷ pages)) (r ∷ []));
     }
 
-some-text : (pages : List (List ℕ)) (text : List ℕ) → 1 ≤ length (with_text pages text)
+pub some-text : (pages : List (List ℕ)) (text : List ℕ) → 1 ≤ length (with_text pages text)
 some-text [] text = omega arith
 some-text (page ∷ []) text = by_room (has_room page (length text))
   where

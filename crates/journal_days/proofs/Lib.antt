@@ -1,4 +1,5 @@
 pub mod Cutting
 pub mod Places
 pub mod Leading
+mod Counting
 mod Judged

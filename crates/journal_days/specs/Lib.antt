@@ -1,4 +1,5 @@
 pub mod Cut
+pub mod Counted
 pub mod Day
 pub mod Left
 pub use Rattle.journal_pages.specs.Ordered

@@ -1,14 +1,17 @@
 //! Pages that records are written into.
 
-ghost use Rattle.std.specs.Prelude.{◌≡◌, ◌+◌, ◌<◌, ◌≤◌, ◌++◌, ◌∷◌, [], List, drop, length, true, IfOk, OnOk, OnErr};
+ghost use Rattle.std.specs.Prelude.{◌≡◌, ◌+◌, ◌<◌, ◌≤◌, ◌++◌, ◌∷◌, [], ℕ, List, Some, drop, length, true};
+ghost use Rattle.std.specs.Prelude.{◌%◌, ◌^◌, IfOk, OnOk, OnErr};
+ghost use Rattle.std.specs.Option.{option_map};
 ghost use Rattle.journal_pages.specs.Record.{Record, payload_limit};
 ghost use Rattle.journal_pages.specs.Seen.{record_of, record_seen};
 ghost use Rattle.journal_pages.specs.declared.version.Version.TheVariants.{One};
 ghost use Rattle.journal_days.specs.Day.{day_records};
-ghost use Rattle.journal_pages.specs.Ordered.{AreWritable};
+ghost use Rattle.journal_pages.specs.Ordered.{AreWritable, IsWritable};
 ghost use Rattle.journal_days.specs.Cut as spec;
 ghost use Rattle.journal_days.specs.Cut.{cut_back, last_cut, next_number, page_with, record_text, texts};
 ghost use Rattle.journal_days.specs.Cut.{with_records, with_text};
+ghost use Rattle.journal_days.specs.Counted.{LastGoesOn};
 
 use crate::numbers::next_number;
 use crate::records::DayRecords;
@@ -36,15 +39,20 @@ pub struct PagesMark {
 #[derive(Drop)]
 pub struct DayPages {
     pages: Vec<Vec<u8>>,
+    /// The number of the page that comes next, where the last page is known to be records to its end.
+    next: Option<u64>,
 }
 
 impl Model for DayPages {
-    ghost use Rattle.std.specs.Prelude.{List, ℕ};
+    ghost use Rattle.std.specs.Prelude.{◌≡◌, List, ℕ, Some};
     ghost use Rattle.journal_days.specs.Cut.{texts};
+    ghost use Rattle.journal_days.specs.Counted.{IsCounted};
 
     ghost Value = { List (List ℕ) };
 
     ghost view = { λ d. texts d.pages.items };
+
+    ghost invariant = { λ d. (n : ℕ) → d.next ≡ Some n → IsCounted n (texts d.pages.items) };
 }
 
 impl DayPages {
@@ -54,6 +62,7 @@ impl DayPages {
     {
         DayPages {
             pages: Vec::new(alloc),
+            next: None,
         }
     }
 
@@ -65,7 +74,10 @@ impl DayPages {
         for page in pages {
             push_page(&mut copies, Vec::from_slice(alloc, page.as_slice())?)?;
         }
-        Ok(DayPages { pages: copies })
+        Ok(DayPages {
+            pages: copies,
+            next: None,
+        })
     }
 
     /// The records of pages of version 1, written anew in version 2. Two growths at most for each record.
@@ -103,7 +115,40 @@ impl DayPages {
             ≡ with_text self.old (record_text (record_of head.now (front.now ++ back.now)))) }
         ensures err { OnErr result (self.new ≡ self.old) }
     {
-        append_record(&mut self.pages, head, front, back)
+        append_record(&mut self.pages, self.next, head, front, back)?;
+        self.next = None;
+        Ok(())
+    }
+
+    /// The same of a record whose bytes say it: so the number of the page behind stays known, and no page is read again
+    /// for it.
+    pub fn append_writable(
+        &mut self,
+        head: &RecordHead,
+        front: &[u8],
+        back: &[u8],
+    ) -> Result<(), AllocError>
+        requires limit { length front.now + length back.now < payload_limit }
+        requires writable { IsWritable (record_of head.now (front.now ++ back.now)) }
+        ensures ok { OnOk result (self.new
+            ≡ with_text self.old (record_text (record_of head.now (front.now ++ back.now)))) }
+        ensures err { OnErr result (self.new ≡ self.old) }
+    {
+        let next = self.next_before(HEAD + front.len() + back.len());
+        append_record(&mut self.pages, next, head, front, back)?;
+        self.next = number_after(next);
+        Ok(())
+    }
+
+    /// The number of the page that comes next, where it is known or a record of this size begins it.
+    fn next_before(&self, size: usize) -> Option<u64>
+        ensures next { (n : ℕ) → result ≡ Some n → spec.next_number self.now ≡ n }
+        ensures last { (n : ℕ) → result ≡ Some n → spec.last_has_room self.now size ≡ true → LastGoesOn self.now }
+    {
+        if self.next.is_some() || last_has_room(self.pages.as_slice(), size) {
+            return self.next;
+        }
+        Some(next_number(self.pages.as_slice()))
     }
 
     /// The bytes of each page, the oldest first.
@@ -121,6 +166,9 @@ impl DayPages {
             return;
         }
         let _ = self.pages.remove(0);
+        if self.pages.is_empty() {
+            self.next = None;
+        }
     }
 
     /// Where the pages end now: `undo` brings them back to it, whatever records came behind. Takes no memory.
@@ -137,6 +185,7 @@ impl DayPages {
     pub fn undo(&mut self, mark: PagesMark)
         ensures { self.new ≡ cut_back mark.pages mark.bytes self.old }
     {
+        self.next = None;
         self.pages.truncate(mark.pages);
         cut_last(&mut self.pages, mark.bytes);
     }
@@ -163,21 +212,33 @@ fn cut_last(pages: &mut Vec<Vec<u8>>, bytes: usize)
     pages.push_reserved(last);
 }
 
-/// One record more behind these pages.
+/// The number one further, as a number of 64 bits.
+fn number_after(next: Option<u64>) -> Option<u64>
+    ensures { result ≡ option_map (λ n. (n + 1) % 2 ^ 64) next }
+{
+    match next {
+        Some(number) => Some(number.wrapping_add(1)),
+        None => None,
+    }
+}
+
+/// One record more behind these pages, of which the next one has this number, where it is known.
 fn append_record(
     pages: &mut Vec<Vec<u8>>,
+    next: Option<u64>,
     head: &RecordHead,
     front: &[u8],
     back: &[u8],
 ) -> Result<(), AllocError>
-    requires { length front.now + length back.now < payload_limit }
+    requires limit { length front.now + length back.now < payload_limit }
+    requires next { (n : ℕ) → next ≡ Some n → spec.next_number (texts pages.old.items) ≡ n }
     ensures ok { OnOk result (texts pages.new.items
         ≡ with_text (texts pages.old.items) (record_text (record_of head.now (front.now ++ back.now)))) }
     ensures err { OnErr result (texts pages.new.items ≡ texts pages.old.items) }
 {
     let size = HEAD + front.len() + back.len();
     if !last_has_room(pages.as_slice(), size) {
-        return begin_page(pages, head, front, back);
+        return begin_page(pages, next, head, front, back);
     }
     append_last(pages, head, front, back)
 }
@@ -217,22 +278,35 @@ fn append_last(
     append_text(&mut pages[last], head, front, back)
 }
 
-/// A new page with one record.
+/// A new page with one record. It has this number, where that is known.
 fn begin_page(
     pages: &mut Vec<Vec<u8>>,
+    next: Option<u64>,
     head: &RecordHead,
     front: &[u8],
     back: &[u8],
 ) -> Result<(), AllocError>
-    requires { length front.now + length back.now < payload_limit }
+    requires limit { length front.now + length back.now < payload_limit }
+    requires next { (n : ℕ) → next ≡ Some n → spec.next_number (texts pages.old.items) ≡ n }
     ensures ok { OnOk result (texts pages.new.items ≡ texts pages.old.items
         ++ page_with (next_number (texts pages.old.items))
         (record_text (record_of head.now (front.now ++ back.now))) ∷ []) }
     ensures err { OnErr result (texts pages.new.items ≡ texts pages.old.items) }
 {
-    let number = next_number(pages.as_slice());
+    let number = number_of(next, pages.as_slice());
     let page = page_of(*pages.allocator(), number, head, front, back)?;
     push_page(pages, page)
+}
+
+/// The number of the page behind these: this one, where it is known.
+fn number_of(next: Option<u64>, pages: &[Vec<u8>]) -> u64
+    requires { (n : ℕ) → next ≡ Some n → spec.next_number (texts pages.now) ≡ n }
+    ensures { result ≡ spec.next_number (texts pages.now) }
+{
+    match next {
+        Some(number) => number,
+        None => next_number(pages),
+    }
 }
 
 /// One page more.

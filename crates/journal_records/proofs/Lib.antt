@@ -1,4 +1,5 @@
 mod Back
+mod Behind
 pub mod Fits
 pub mod InOrder
 mod Listing

@@ -4,6 +4,7 @@ ghost use Rattle.std.specs.Prelude.{◌≡◌, ◌<◌, ◌++◌, ◌∷◌, [],
 ghost use Rattle.gate_events.specs.Seen.{batch_seen, link_out_seen};
 ghost use Rattle.journal_pages.specs.Record.{payload_limit};
 ghost use Rattle.journal_pages.specs.Seen.{record_of};
+ghost use Rattle.journal_pages.specs.Ordered.{AreWritable, IsWritable};
 ghost use Rattle.journal_days.specs.Cut.{IsMoreOf, with_records};
 ghost use Rattle.journal_records.specs.Parts.{batch_records, client_records, end_record, fault_records, named_number};
 ghost use Rattle.journal_records.specs.Parts.{out_record, port_records, report_record};
@@ -22,6 +23,7 @@ const PAYLOAD_LIMIT: usize = 1_048_576;
 /// Appends the records of a batch whose event came at this moment, its end the last. `AllocError` leaves what stood in
 /// `out` in front of some of the records.
 pub fn append_batch(batch: &Batch, at: u64, out: &mut DayPages) -> Result<(), AllocError>
+    requires { AreWritable (batch_records at (batch_seen batch.now)) }
     ensures ok { OnOk result (out.new ≡ with_records out.old (batch_records at (batch_seen batch.now))) }
     ensures kept { IsMoreOf out.old out.new }
 {
@@ -32,6 +34,8 @@ pub fn append_batch(batch: &Batch, at: u64, out: &mut DayPages) -> Result<(), Al
 
 /// Appends what a batch has for a client.
 fn append_client_part(batch: &Batch, at: u64, out: &mut DayPages) -> Result<(), AllocError>
+    requires { AreWritable (client_records at (named_number (batch_seen batch.now).client)
+        (batch_seen batch.now).reports (batch_seen batch.now).client_out) }
     ensures ok { OnOk result (out.new ≡ with_records out.old (client_records at
         (named_number (batch_seen batch.now).client) (batch_seen batch.now).reports
         (batch_seen batch.now).client_out)) }
@@ -47,6 +51,8 @@ fn append_client_part(batch: &Batch, at: u64, out: &mut DayPages) -> Result<(), 
 
 /// Appends what a batch has for a port, and its end.
 fn append_port_part(batch: &Batch, at: u64, out: &mut DayPages) -> Result<(), AllocError>
+    requires { AreWritable (port_records at (named_number (batch_seen batch.now).port)
+        (batch_seen batch.now).port_out (batch_seen batch.now).fault) }
     ensures ok { OnOk result (out.new ≡ with_records out.old (port_records at
         (named_number (batch_seen batch.now).port) (batch_seen batch.now).port_out
         (batch_seen batch.now).fault)) }
@@ -87,6 +93,7 @@ fn append_reports(
     client: u16,
     out: &mut DayPages,
 ) -> Result<(), AllocError>
+    requires { AreWritable (map (report_record at client) reports.now) }
     ensures ok { OnOk result (out.new ≡ with_records out.old (map (report_record at client) reports.now)) }
     ensures kept { IsMoreOf out.old out.new }
 {
@@ -105,6 +112,7 @@ fn append_outs(
     source: u16,
     out: &mut DayPages,
 ) -> Result<(), AllocError>
+    requires { AreWritable (map (out_record write close at source) (map link_out_seen outs.now)) }
     ensures ok { OnOk result (out.new
         ≡ with_records out.old (map (out_record write close at source) (map link_out_seen outs.now))) }
     ensures kept { IsMoreOf out.old out.new }
@@ -125,6 +133,7 @@ fn append_out(
     source: u16,
     out: &mut DayPages,
 ) -> Result<(), AllocError>
+    requires { IsWritable (out_record write close at source (link_out_seen told.now)) }
     ensures ok { OnOk result (out.new
         ≡ with_records out.old (out_record write close at source (link_out_seen told.now) ∷ [])) }
     ensures err { OnErr result (out.new ≡ out.old) }
@@ -145,6 +154,7 @@ fn append_ending(
     port: u16,
     out: &mut DayPages,
 ) -> Result<(), AllocError>
+    requires { AreWritable (fault_records at port fault ++ end_record at ∷ []) }
     ensures ok { OnOk result (out.new
         ≡ with_records out.old (fault_records at port fault ++ end_record at ∷ [])) }
     ensures kept { IsMoreOf out.old out.new }
@@ -156,6 +166,7 @@ fn append_ending(
 
 /// Appends the end of a batch.
 fn append_end(at: u64, out: &mut DayPages) -> Result<(), AllocError>
+    requires { IsWritable (end_record at) }
     ensures ok { OnOk result (out.new ≡ with_records out.old (end_record at ∷ [])) }
     ensures err { OnErr result (out.new ≡ out.old) }
 {
@@ -169,6 +180,7 @@ fn append_fault(
     port: u16,
     out: &mut DayPages,
 ) -> Result<(), AllocError>
+    requires { AreWritable (fault_records at port fault) }
     ensures ok { OnOk result (out.new ≡ with_records out.old (fault_records at port fault)) }
     ensures err { OnErr result (out.new ≡ out.old) }
 {
@@ -180,9 +192,10 @@ fn append_fault(
 
 /// Appends the record of a head and a payload. `AllocError` leaves `out` as it was.
 fn append_record(head: RecordHead, payload: &[u8], out: &mut DayPages) -> Result<(), AllocError>
-    requires { length payload.now < payload_limit }
+    requires limit { length payload.now < payload_limit }
+    requires writable { IsWritable (record_of head payload.now) }
     ensures ok { OnOk result (out.new ≡ with_records out.old (record_of head payload.now ∷ [])) }
     ensures err { OnErr result (out.new ≡ out.old) }
 {
-    out.append(&head, &[], payload)
+    out.append_writable(&head, &[], payload)
 }

@@ -3,10 +3,12 @@
 ghost use Rattle.std.specs.Prelude.{◌≡◌, ◌+◌, ◌<◌, ◌++◌, ◌∷◌, [], length, OnOk, OnErr};
 ghost use Rattle.journal_pages.specs.Record.{payload_limit};
 ghost use Rattle.journal_pages.specs.Seen.{record_of};
+ghost use Rattle.journal_pages.specs.Ordered.{IsWritable};
 ghost use Rattle.journal_days.specs.Cut.{with_records};
 ghost use Rattle.journal_records.specs.Events.{event_record};
 ghost use Rattle.soup_packets.specs.Spelling.{packet_bytes};
 
+use crate::fitting::event_fits;
 use crate::heads::head;
 use gate_events::Event;
 use journal_days::DayPages;
@@ -19,6 +21,7 @@ pub fn append_event(event: &Event, out: &mut DayPages) -> Result<(), AllocError>
     ensures ok { OnOk result (out.new ≡ with_records out.old (event_record event.now ∷ [])) }
     ensures err { OnErr result (out.new ≡ out.old) }
 {
+    event_fits(event);
     match event {
         Event::ClientMessage { frame, .. } => {
             append_payload(event, out, &[], frame.fields().text())
@@ -62,7 +65,8 @@ pub fn event_head(event: &Event) -> RecordHead
 
 /// Appends the record of a packet's event.
 fn append_packet(event: &Event, out: &mut DayPages, packet: &Packet) -> Result<(), AllocError>
-    requires { (event_record event.now).payload ≡ packet_bytes packet.now }
+    requires payload { (event_record event.now).payload ≡ packet_bytes packet.now }
+    requires writable { IsWritable (event_record event.now) }
     ensures ok { OnOk result (out.new ≡ with_records out.old (event_record event.now ∷ [])) }
     ensures err { OnErr result (out.new ≡ out.old) }
 {
@@ -80,9 +84,10 @@ fn append_payload(
 ) -> Result<(), AllocError>
     requires payload { front.now ++ back.now ≡ (event_record event.now).payload }
     requires limit { length front.now + length back.now < payload_limit }
+    requires writable { IsWritable (event_record event.now) }
     ensures ok { OnOk result (out.new ≡ with_records out.old (event_record event.now ∷ [])) }
     ensures err { OnErr result (out.new ≡ out.old) }
 {
     let head = event_head(event);
-    out.append(&head, front, back)
+    out.append_writable(&head, front, back)
 }

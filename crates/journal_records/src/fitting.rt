@@ -25,7 +25,7 @@ pub fn turn_fits(event: &Event, batch: &Batch) -> bool
 }
 
 /// What an event keeps. It does nothing: its contract says it.
-fn event_fits(event: &Event)
+pub(crate) fn event_fits(event: &Event)
     ensures writable { IsWritable (event_record event.now) }
     ensures fields { AreItsFields event.now }
 {

@@ -2,6 +2,7 @@
 
 ghost use Rattle.std.specs.Prelude.{◌≡◌, ◌∷◌, [], OnOk, OnErr};
 ghost use Rattle.gate_events.specs.Seen.{batch_seen};
+ghost use Rattle.journal_pages.specs.Ordered.{AreWritable};
 ghost use Rattle.journal_days.specs.Cut.{IsMoreOf, with_records};
 ghost use Rattle.journal_records.specs.Events.{event_record};
 ghost use Rattle.journal_records.specs.Parts.{turn_records};
@@ -30,6 +31,7 @@ pub fn append_turn(event: &Event, batch: &Batch, out: &mut DayPages) -> Result<(
 
 /// The same, whatever a link is told.
 fn append_whole(event: &Event, batch: &Batch, out: &mut DayPages) -> Result<(), AllocError>
+    requires { AreWritable (turn_records event.now (batch_seen batch.now)) }
     ensures ok { OnOk result (out.new ≡ with_records out.old (turn_records event.now (batch_seen batch.now))) }
     ensures err { OnErr result (out.new ≡ out.old) }
 {
@@ -45,6 +47,7 @@ fn append_whole(event: &Event, batch: &Batch, out: &mut DayPages) -> Result<(), 
 
 /// The same, but the pages are left with some of the records behind them where memory runs out.
 fn append_parts(event: &Event, batch: &Batch, out: &mut DayPages) -> Result<(), AllocError>
+    requires { AreWritable (turn_records event.now (batch_seen batch.now)) }
     ensures ok { OnOk result (out.new ≡ with_records out.old (turn_records event.now (batch_seen batch.now))) }
     ensures kept { IsMoreOf out.old out.new }
 {

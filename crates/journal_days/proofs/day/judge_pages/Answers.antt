@@ -3,8 +3,6 @@ use Rattle.std.specs.Prelude.{◌==◌}
 use Rattle.std.specs.declared.alloc.Global.{Global}
 use Rattle.journal_pages.specs.declared.place.Place.{Place}
 use Rattle.journal_pages.specs.declared.version.Version.{Version}
-use Rattle.journal_pages.specs.Ordered.{place_behind}
-use Rattle.journal_pages.specs.Page.{page_records}
 use Rattle.journal_days.specs.Cut.{number_behind, texts}
 use Rattle.journal_days.specs.Day.{fault_from, page_behind, page_fault_in_day}
 use Rattle.journal_days.proofs.Judged.{first-right, first-wrong}

@@ -9,8 +9,8 @@ pub returns-clause-ok : goal.returns-clause-ok
 returns-clause-ok c =
     let pages : List (Vec ℕ Global) = c.args.pages.now.items in
     let text : List ℕ = record_text (record_of c.args.head.now (c.args.front.now ++ c.args.back.now)) in
-    let number : c.next_number-number.result ≡ next_number (texts pages) =
-    c.next_number-number.ensures ∙ ap (λ (ps : List (Vec ℕ Global)). next_number (texts ps)) c.as_slice.ensures.value in
+    let number : c.number_of-number.result ≡ next_number (texts pages) =
+    c.number_of-number.ensures ∙ ap (λ (ps : List (Vec ℕ Global)). next_number (texts ps)) c.as_slice.ensures.value in
     on_ok_weaker c.push_page.result
     (λ e. e ∙ ap (λ (p : List ℕ). texts pages ++ p ∷ []) (c.in_ok-page.ensures ∙ ap (λ n. page_with n text) number))
     c.push_page.ensures.ok

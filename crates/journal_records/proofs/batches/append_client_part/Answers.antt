@@ -1,4 +1,4 @@
-use Rattle.std.proofs.Common.{List, ℕ, ap, ◌∙◌}
+use Rattle.std.proofs.Common.{List, ℕ, ap, ◌∙◌, sym, subst}
 use Rattle.std.specs.Prelude.{map}
 use Rattle.journal_pages.specs.fix_fields.Field.{Message}
 use Rattle.gate_law.specs.Events.{Batch}
@@ -8,6 +8,8 @@ use Rattle.journal_pages.specs.declared.kind.RecordKind.TheVariants as kinds
 use Rattle.journal_days.specs.Cut.{with_records}
 use Rattle.journal_records.specs.Parts.{client_records, out_record, report_record}
 use Rattle.journal_records.proofs.More.{both-parts, more-both}
+use Rattle.journal_records.proofs.Behind.{first-writable, later-writable}
+use Rattle.journal_pages.specs.Ordered.{AreWritable}
 use Rattle.journal_records.proofs.batches.append_client_part.Goals as goal
 
 pub returns-in_err-append_outs-clause-kept : goal.returns-in_err-append_outs-clause-kept
@@ -35,3 +37,23 @@ returns-clause-ok c =
     ∙ ap (λ (os : List LinkOut). with_records out (client_records at n b.reports (map link_out_seen os)))
     c.as_slice-2.ensures.value
     ∙ ap (λ m. with_records out (client_records at m b.reports b.client_out)) c.client_of-client.ensures
+
+pub append_reports-requires : goal.append_reports-requires
+append_reports-requires c =
+    let b : Batch = batch_seen c.args.batch.now in
+    let n : ℕ = c.client_of-client.result in
+    let at : ℕ = c.args.at in
+    subst (λ (rs : List Message). AreWritable (map (report_record at n) rs)) (sym c.as_slice.ensures.value)
+    (subst (λ m. AreWritable (map (report_record at m) b.reports)) (sym c.client_of-client.ensures)
+    (first-writable _ _ c.requires))
+
+pub append_outs-requires : goal.append_outs-requires
+append_outs-requires c =
+    let b : Batch = batch_seen c.args.batch.now in
+    let n : ℕ = c.client_of-client.result in
+    let at : ℕ = c.args.at in
+    subst (λ (os : List LinkOut).
+    AreWritable (map (out_record kinds.ClientWrite kinds.ClientClose at n) (map link_out_seen os)))
+    (sym c.as_slice-2.ensures.value)
+    (subst (λ m. AreWritable (map (out_record kinds.ClientWrite kinds.ClientClose at m) b.client_out))
+    (sym c.client_of-client.ensures) (later-writable _ _ c.requires))

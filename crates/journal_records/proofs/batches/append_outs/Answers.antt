@@ -8,6 +8,7 @@ use Rattle.journal_pages.specs.Record.{Record}
 use Rattle.journal_days.specs.Cut.{with_records}
 use Rattle.journal_records.specs.Parts.{out_record}
 use Rattle.journal_records.proofs.More.{both-parts, more-by}
+use Rattle.journal_records.proofs.Behind.{writable-of}
 use Rattle.journal_records.proofs.batches.append_outs.Goals as goal
 
 told-more : (f : law.LinkOut → Record) (a b c : List (List ℕ)) (outs : List LinkOut) (i : ℕ) (o : LinkOut)
@@ -40,3 +41,8 @@ pub returns-clause-kept : goal.returns-clause-kept
 returns-clause-kept c =
     more-by c.args.out.now c.loop-told.out (map (out_record c.args.write c.args.close c.args.at c.args.source)
     (map link_out_seen (take c.loop-told.told-index c.args.outs.now))) c.loop-told.invariant
+
+pub append_out-requires : goal.append_out-requires
+append_out-requires c =
+    writable-of (out_record c.args.write c.args.close c.args.at c.args.source) link_out_seen c.args.outs.now
+    c.loop-told.told-index c.told-item.result c.loop-told-test.true c.told-item.is c.requires
