@@ -189,6 +189,10 @@ impl<D: Decoder> Reader<D> {
         ensures offers { Offers result self.old self.new (G.was_put gate.old) (G.was_put gate.new) }
         ensures none_taken { G.was_taken gate.new ≡ G.was_taken gate.old }
     {
+        // An event is large: it is moved only where there is one.
+        if self.offered.is_none() {
+            return true;
+        }
         let Some(event) = self.offered.take() else {
             return true;
         };
