@@ -165,3 +165,13 @@ known-behind (Some m) after n pages now r is number goes good more e =
     let same : (next_number pages + 1) % 2 ^ 64 ≡ n = ap (λ k. (k + 1) % 2 ^ 64) (number m refl) ∙ further in
     subst (λ (ps : List (List ℕ)). IsCounted n ps) (sym more)
     (subst (λ k. IsCounted k (with_text pages (record_text r))) same (counted-more pages r (goes m refl) good))
+
+-- the number behind a record that begins a page
+pub begun-behind : (number after n : ℕ) (pages now : List (List ℕ)) (r : Record) → number ≡ next_number pages
+    → after ≡ (number + 1) % 2 ^ 64 → last_has_room pages (length (record_text r)) ≡ false → IsWritable r
+    → now ≡ with_text pages (record_text r) → Some after ≡ Some n → IsCounted n now
+begun-behind number after n pages now r is further none good more e =
+    let same : (next_number pages + 1) % 2 ^ 64 ≡ n =
+    let last : after ≡ n = cc in ap (λ k. (k + 1) % 2 ^ 64) (sym is) ∙ (sym further ∙ last) in
+    subst (λ (ps : List (List ℕ)). IsCounted n ps) (sym more)
+    (subst (λ k. IsCounted k (with_text pages (record_text r))) same (new-page-counted pages r none good))

@@ -1,6 +1,6 @@
 //! Pages that records are written into.
 
-ghost use Rattle.std.specs.Prelude.{◌≡◌, ◌+◌, ◌<◌, ◌≤◌, ◌++◌, ◌∷◌, [], ℕ, List, Some, drop, length, true};
+ghost use Rattle.std.specs.Prelude.{◌≡◌, ◌+◌, ◌<◌, ◌≤◌, ◌++◌, ◌∷◌, [], ℕ, List, drop, length, true, false};
 ghost use Rattle.std.specs.Prelude.{◌%◌, ◌^◌, IfOk, OnOk, OnErr};
 ghost use Rattle.std.specs.Option.{option_map};
 ghost use Rattle.journal_pages.specs.Record.{Record, payload_limit};
@@ -11,7 +11,6 @@ ghost use Rattle.journal_pages.specs.Ordered.{AreWritable, IsWritable};
 ghost use Rattle.journal_days.specs.Cut as spec;
 ghost use Rattle.journal_days.specs.Cut.{cut_back, last_cut, next_number, page_with, record_text, texts};
 ghost use Rattle.journal_days.specs.Cut.{with_records, with_text};
-ghost use Rattle.journal_days.specs.Counted.{LastGoesOn};
 
 use crate::numbers::next_number;
 use crate::records::DayRecords;
@@ -115,9 +114,8 @@ impl DayPages {
             ≡ with_text self.old (record_text (record_of head.now (front.now ++ back.now)))) }
         ensures err { OnErr result (self.new ≡ self.old) }
     {
-        append_record(&mut self.pages, self.next, head, front, back)?;
         self.next = None;
-        Ok(())
+        append_record(&mut self.pages, head, front, back)
     }
 
     /// The same of a record whose bytes say it: so the number of the page behind stays known, and no page is read again
@@ -134,21 +132,33 @@ impl DayPages {
             ≡ with_text self.old (record_text (record_of head.now (front.now ++ back.now)))) }
         ensures err { OnErr result (self.new ≡ self.old) }
     {
-        let next = self.next_before(HEAD + front.len() + back.len());
-        append_record(&mut self.pages, next, head, front, back)?;
-        self.next = number_after(next);
+        let size = HEAD + front.len() + back.len();
+        if !last_has_room(self.pages.as_slice(), size) {
+            return self.begin_writable(head, front, back);
+        }
+        append_last(&mut self.pages, head, front, back)?;
+        self.next = number_after(self.next);
         Ok(())
     }
 
-    /// The number of the page that comes next, where it is known or a record of this size begins it.
-    fn next_before(&self, size: usize) -> Option<u64>
-        ensures next { (n : ℕ) → result ≡ Some n → spec.next_number self.now ≡ n }
-        ensures last { (n : ℕ) → result ≡ Some n → spec.last_has_room self.now size ≡ true → LastGoesOn self.now }
+    /// The same of a record for which the last page has no room: it begins a page.
+    fn begin_writable(
+        &mut self,
+        head: &RecordHead,
+        front: &[u8],
+        back: &[u8],
+    ) -> Result<(), AllocError>
+        requires limit { length front.now + length back.now < payload_limit }
+        requires writable { IsWritable (record_of head.now (front.now ++ back.now)) }
+        requires full { spec.last_has_room self.old (23 + length front.now + length back.now) ≡ false }
+        ensures ok { OnOk result (self.new
+            ≡ with_text self.old (record_text (record_of head.now (front.now ++ back.now)))) }
+        ensures err { OnErr result (self.new ≡ self.old) }
     {
-        if self.next.is_some() || last_has_room(self.pages.as_slice(), size) {
-            return self.next;
-        }
-        Some(next_number(self.pages.as_slice()))
+        let number = number_of(self.next, self.pages.as_slice());
+        begin_page(&mut self.pages, number, head, front, back)?;
+        self.next = Some(number.wrapping_add(1));
+        Ok(())
     }
 
     /// The bytes of each page, the oldest first.
@@ -222,23 +232,22 @@ fn number_after(next: Option<u64>) -> Option<u64>
     }
 }
 
-/// One record more behind these pages, of which the next one has this number, where it is known.
+/// One record more behind these pages.
 fn append_record(
     pages: &mut Vec<Vec<u8>>,
-    next: Option<u64>,
     head: &RecordHead,
     front: &[u8],
     back: &[u8],
 ) -> Result<(), AllocError>
-    requires limit { length front.now + length back.now < payload_limit }
-    requires next { (n : ℕ) → next ≡ Some n → spec.next_number (texts pages.old.items) ≡ n }
+    requires { length front.now + length back.now < payload_limit }
     ensures ok { OnOk result (texts pages.new.items
         ≡ with_text (texts pages.old.items) (record_text (record_of head.now (front.now ++ back.now)))) }
     ensures err { OnErr result (texts pages.new.items ≡ texts pages.old.items) }
 {
     let size = HEAD + front.len() + back.len();
     if !last_has_room(pages.as_slice(), size) {
-        return begin_page(pages, next, head, front, back);
+        let number = next_number(pages.as_slice());
+        return begin_page(pages, number, head, front, back);
     }
     append_last(pages, head, front, back)
 }
@@ -278,22 +287,21 @@ fn append_last(
     append_text(&mut pages[last], head, front, back)
 }
 
-/// A new page with one record. It has this number, where that is known.
+/// A new page with one record. It has the number of the page behind these.
 fn begin_page(
     pages: &mut Vec<Vec<u8>>,
-    next: Option<u64>,
+    number: u64,
     head: &RecordHead,
     front: &[u8],
     back: &[u8],
 ) -> Result<(), AllocError>
     requires limit { length front.now + length back.now < payload_limit }
-    requires next { (n : ℕ) → next ≡ Some n → spec.next_number (texts pages.old.items) ≡ n }
+    requires number { number ≡ spec.next_number (texts pages.old.items) }
     ensures ok { OnOk result (texts pages.new.items ≡ texts pages.old.items
         ++ page_with (next_number (texts pages.old.items))
         (record_text (record_of head.now (front.now ++ back.now))) ∷ []) }
     ensures err { OnErr result (texts pages.new.items ≡ texts pages.old.items) }
 {
-    let number = number_of(next, pages.as_slice());
     let page = page_of(*pages.allocator(), number, head, front, back)?;
     push_page(pages, page)
 }
