@@ -330,8 +330,8 @@ impl BatchWriter {
         true
     }
 
-    /// Joins the rest of the list that was taken, where there is some, and gives its memory back. If memory runs out the
-    /// rest is kept.
+    /// Joins the rest of the list that was taken, where there is some, and gives its memory back. If memory runs out
+    /// the rest is kept.
     fn join(&mut self, alloc: Global) -> Result<(), AllocError>
         ensures joins { Joins self.old self.new }
         ensures joined { OnOk result (self.new.held ≡ []) }
