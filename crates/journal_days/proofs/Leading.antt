@@ -275,7 +275,7 @@ all-more p pages q (r ∷ rs) from l good none =
 
 -- ---- a day of either version
 
-none-is : (n : ℕ) (o : Option PageFault) (later : Option (ℕ × PageFault)) → at_page n o later ≡ None
+pub none-is : (n : ℕ) (o : Option PageFault) (later : Option (ℕ × PageFault)) → at_page n o later ≡ None
     → (o ≡ None) × (later ≡ None)
 none-is n None later e = (refl, e)
 none-is n (Some fault) later e = let no : ⊥ = cc in absurd no
@@ -396,7 +396,7 @@ page-numbered before after page day =
 
 -- ---- a day of version 1 in version 2
 
-order-led : (version : Version) (p q : From) (pages : List (List ℕ)) → Leads version p pages q
+pub order-led : (version : Version) (p q : From) (pages : List (List ℕ)) → Leads version p pages q
     → (order_fault p.place (day_records version pages) ≡ None)
     × (place_behind p.place (day_records version pages) ≡ q.place)
 order-led version p q [] l = (refl, ap (λ (x : From). x.place) l)
@@ -419,3 +419,19 @@ pub records-rewritten : (pages : List (List ℕ)) → AreWritable (day_records O
 records-rewritten pages good day =
     let on = leads-of One pages day in
     day-listed [] (day_records One pages) refl good (order-led One start on.to pages on.leads).0
+
+-- ---- a day in two parts
+
+-- what stands behind a day, where both are one, begins between batches
+pub part-order : (before after : List (List ℕ)) → day_fault Two before ≡ None → day_fault Two (before ++ after) ≡ None
+    → order_fault BetweenBatches (day_records Two after) ≡ None
+part-order before after first both =
+    let on = leads-of Two before first in
+    let all = leads-of Two (before ++ after) both in
+    let parts = leads-parts Two start all.to before after all.leads in
+    let here : place_behind BetweenBatches (day_records Two before) ≡ BetweenBatches =
+    (order-led Two start on.to before on.leads).1 ∙ on.closed in
+    let there : place_behind BetweenBatches (day_records Two before) ≡ parts.0.place =
+    (order-led Two start parts.0 before parts.1.0).1 in
+    ap (λ (p : Place). order_fault p (day_records Two after)) (sym here ∙ there)
+    ∙ (order-led Two parts.0 all.to after parts.1.1).0

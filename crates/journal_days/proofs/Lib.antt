@@ -1,3 +1,4 @@
+pub mod Begun
 pub mod Cutting
 pub mod Places
 pub mod Leading

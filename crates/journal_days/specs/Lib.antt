@@ -1,6 +1,8 @@
+pub mod Begun
 pub mod Cut
 pub mod Counted
 pub mod Day
+pub mod Judged
 pub mod Left
 pub use Rattle.journal_pages.specs.Ordered
 pub use Rattle.journal_pages.specs.Page

@@ -61,7 +61,7 @@ fn judge_pages(version: Version, pages: &[Vec<u8>]) -> Result<(), (u32, PageFaul
 }
 
 /// The place of the page behind one of this place; there is none behind the last place.
-fn page_behind(index: u32) -> u32
+pub(crate) fn page_behind(index: u32) -> u32
     ensures { result ≡ spec.page_behind index }
 {
     index.saturating_add(1)
@@ -69,7 +69,7 @@ fn page_behind(index: u32) -> u32
 
 /// The place behind a page that may stand behind so many records and a place, be it the last or not; or what is wrong
 /// with it.
-fn judge_in_day(
+pub(crate) fn judge_in_day(
     version: Version,
     page: &[u8],
     number: u64,
@@ -103,7 +103,7 @@ fn judge_number(version: Version, number: u64, page: &[u8]) -> Result<(), PageFa
 }
 
 /// Whether no batch is open.
-fn has_no_batch(place: &Place) -> bool
+pub(crate) fn has_no_batch(place: &Place) -> bool
     ensures { result ≡ spec.has_no_batch place.now }
 {
     matches!(place, Place::BetweenBatches)

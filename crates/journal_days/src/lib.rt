@@ -8,6 +8,7 @@
 #![tactic(auto)]
 
 mod day;
+mod judge;
 mod laws;
 mod numbers;
 mod pages;
@@ -15,6 +16,7 @@ mod records;
 
 pub use day::judge_day;
 pub use journal_pages::Version;
+pub use judge::DayJudge;
 pub use laws::{days_are_rewritten, days_go_on, numbers_count_records};
 pub use numbers::next_number;
 pub use pages::{DayPages, PagesMark};

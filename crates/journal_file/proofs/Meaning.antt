@@ -19,6 +19,8 @@ use Rattle.journal_pages.proofs.Listed.{page-parts}
 use Rattle.journal_days.specs.Cut.{number_behind}
 use Rattle.journal_days.specs.Day.{at_page, day_fault, fault_from, is_last, kept_as, page_behind, page_fault_in_day}
 use Rattle.journal_days.specs.Day.{version_of}
+use Rattle.journal_days.specs.Begun.{begun_fault}
+use Rattle.journal_days.proofs.Begun.{front-begun}
 use Rattle.journal_days.proofs.Leading.{leads-of}
 use Rattle.gate_journal.specs.Kept.{IsRead, Kept, kept_in}
 use Rattle.journal_file.specs.declared.ending.Ending.{Ending}
@@ -28,10 +30,11 @@ use Rattle.journal_file.specs.Sum.{sum_of}
 use Rattle.journal_file.specs.Endings.{EndsBy, is_unfinished}
 use Rattle.journal_file.specs.File.{AreNotEmpty, file_of, form_of, front_fault, is_end_of_one, sized_page, sized_pages}
 use Rattle.journal_file.specs.File.{stands_at}
-use Rattle.journal_file.specs.Said.{HasMoreAt, IsBrokenAt, IsNoDay, IsNoFile, IsParted, ReadsInFront, ReadsNothingElse}
+use Rattle.journal_file.specs.Said.{IsBehindLast, IsNoFile, IsParted, ReadsInFront, ReadsNothingElse}
 use Rattle.journal_file.specs.Said.{Says}
 use Rattle.journal_file.proofs.One.{few-front, long, whole-front}
-use Rattle.journal_file.proofs.Parted.{along, no-fault, no-page-broken, no-page-by, no-page-over, none-long}
+use Rattle.journal_file.proofs.Parted.{NoPage, along, no-fault, no-page-broken, no-page-by, no-page-over, no-page-unfinished}
+use Rattle.journal_file.proofs.Parted.{none-long}
 use Rattle.journal_file.proofs.Parted.{pages-in-front, pages-once, parted-once, whole-lasts}
 
 -- ---- refused for nothing
@@ -64,6 +67,23 @@ day-not pages others n fault same day why =
     let e : None ≡ Some (n, fault) = sym day ∙ ap (λ (ps : List (List ℕ)). day_fault (version_of ps) ps) same ∙ why in
     cc
 
+-- a day begins with the pages in front of those of a day
+front-not : (front pages : List (List ℕ)) → IsPrefix front pages → (n : ℕ) (fault : PageFault)
+    → day_fault (version_of pages) pages ≡ None → begun_fault (version_of front) front ≡ Some (n, fault) → ⊥
+front-not [] pages is n fault day why = let no : ⊥ = cc in absurd no
+front-not (a ∷ front) pages is n fault day why =
+    let same : version_of pages ≡ version_of (a ∷ front) = ap version_of (sym is.1) in
+    let none : begun_fault (version_of (a ∷ front)) (a ∷ front) ≡ None =
+    front-begun (version_of (a ∷ front)) (a ∷ front) is.0
+    (ap (λ (ps : List (List ℕ)). day_fault (version_of (a ∷ front)) ps) is.1
+    ∙ ap (λ (v : Version). day_fault v pages) (sym same) ∙ day) in
+    let e : None ≡ Some (n, fault) = sym none ∙ why in
+    cc
+
+no-page-behind : (form : Version) (rest : List ℕ) → IsBehindLast form rest → NoPage form rest
+no-page-behind form rest (inl end) page behind e one few = no-page-over form end.0 page behind (sym end.1 ∙ e) one few
+no-page-behind form rest (inr un) page behind e one few = no-page-unfinished form rest un page behind e one few
+
 pub refused-not : (file : List ℕ) (pages : List (List ℕ)) (ending : Ending) (n : ℕ) (fault : FileFault)
     → length file < 2 ^ 64
     → IsParted (form_of file) file pages ending → day_fault (version_of pages) pages ≡ None → IsNoFile file n fault → ⊥
@@ -86,10 +106,21 @@ refused-not file pages ending n fault few parted day (inl (inr more)) =
     (along file (sized_pages form pages ++ parted.rest) parted.same few)
     (no-page-by form parted.rest ending parted.end) (no-page-over form more.0.rest) (sym parted.same ∙ same) in
     more-not form parted.rest more.0.rest ending parted.end one.1 more.0.more
-refused-not file pages ending n fault few parted day (inr bad) =
-    let one : (pages ≡ bad.pages) × (ending ≡ bad.ending) =
-    parted-once (form_of file) file pages bad.pages ending bad.ending few parted bad.parted in
-    day-not pages bad.pages n bad.page_fault one.0 day bad.why
+refused-not file pages ending n fault few parted day (inr (inl wrong)) =
+    let form : Version = form_of file in
+    let front : IsPrefix wrong.pages pages =
+    pages-in-front form wrong.pages pages wrong.rest parted.rest wrong.full parted.full
+    (along file (sized_pages form wrong.pages ++ wrong.rest) wrong.same few)
+    (no-page-by form parted.rest ending parted.end) (sym wrong.same ∙ parted.same) in
+    front-not wrong.pages pages front n wrong.page_fault day wrong.why
+refused-not file pages ending n fault few parted day (inr (inr within)) =
+    let form : Version = form_of file in
+    let one : (pages ≡ within.pages) × (parted.rest ≡ within.rest) =
+    pages-once form pages within.pages parted.rest within.rest parted.full within.full
+    (along file (sized_pages form pages ++ parted.rest) parted.same few)
+    (no-page-by form parted.rest ending parted.end) (no-page-behind form within.rest within.behind)
+    (sym parted.same ∙ within.same) in
+    day-not pages within.pages n within.page_fault one.0 day within.why
 
 -- ---- one answer
 

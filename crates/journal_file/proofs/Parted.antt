@@ -53,7 +53,7 @@ no-page-none form page behind e one few =
     let some = some-before form in
     omega (arith, same, all, some)
 
-no-page-unfinished : (form : Version) (rest : List ℕ) → is_unfinished form rest ≡ true → NoPage form rest
+pub no-page-unfinished : (form : Version) (rest : List ℕ) → is_unfinished form rest ≡ true → NoPage form rest
 no-page-unfinished One rest un page behind e one few = true≢false (sym un)
 no-page-unfinished Two [] un page behind e one few = no-page-none Two page behind e one few
 no-page-unfinished Two (b ∷ rest) un page behind e one few =

@@ -1,14 +1,15 @@
 //! A day's file, read.
 
-ghost use Rattle.std.specs.Prelude.{◌≡◌, ◌⊎◌, ◌<◌, ◌^◌, ◌++◌, ◌∷◌, [], Some, length, min, false};
+ghost use Rattle.std.specs.Prelude.{◌≡◌, ◌⊎◌, ◌<◌, ◌^◌, ◌++◌, ◌∷◌, [], Some, length, min, true, false};
 ghost use Rattle.std.specs.Prelude.{MatchOption, MatchResult, IfOk, OnOk, ◌≤◌};
 ghost use Rattle.std.specs.Int.{w64, to_be_bytes};
 ghost use Rattle.journal_days.specs.Cut.{texts};
+ghost use Rattle.journal_days.specs.Day.{day_fault, version_of};
 ghost use Rattle.journal_file.specs.Endings as endings;
 ghost use Rattle.journal_file.specs.Endings.{EndsBy};
 ghost use Rattle.journal_file.specs.File as spec;
 ghost use Rattle.journal_file.specs.File.{front_fault, sized_page};
-ghost use Rattle.journal_file.specs.Said.{IsNoFile, IsNoForm, IsNoMemory, IsParted, Says};
+ghost use Rattle.journal_file.specs.Said.{IsNoFile, IsNoMemory, IsOpenAt, IsPartedDay, Says};
 ghost use Rattle.journal_file.specs.Said.{ReadsInFront, ReadsNothingElse};
 ghost use Rattle.journal_pages.specs.declared.fault.PageFault.TheVariants.{Head};
 ghost use Rattle.journal_pages.specs.declared.version.Version.TheVariants.{One, Two};
@@ -19,11 +20,12 @@ use crate::ending::Ending;
 use crate::fault::FileFault;
 use crate::sum::sum_of;
 use gate_journal::{History, Version};
+use journal_days::DayJudge;
 use journal_pages::PageFault;
 use std::alloc::{AllocError, Global};
 
 /// What a write that was cut short leaves has fewer bytes than this: 64 MiB.
-const TORN_LIMIT: usize = 67_108_864;
+pub(crate) const TORN_LIMIT: usize = 67_108_864;
 
 /// What stands in front of a file, and what behind it.
 type Parts<'a> = (&'a [u8], &'a [u8]);
@@ -43,11 +45,12 @@ type Parted = Result<(Vec<Vec<u8>>, Ending), (u32, FileFault)>;
 /// write of its last page was cut short. Of a file that is damaged the place of the first page with which something
 /// is wrong, from 0, and what.
 ///
-/// The file's form comes first: where no whole page and no end stands, `CutShort` for too few bytes or `Sum` for a
-/// sum that isn't theirs, with the place that a page there would have, unless a write that was cut short left these
-/// bytes: fewer than 64 MiB, at none of which a page or an end begins. `Head` where bytes stand behind an end, with
-/// the place of the page that they would be. Then what `History::read` refuses. A file of the first form is read
-/// where it is over. `NoMemory` has the place 0.
+/// The first wrong page is named, be it that its bytes aren't whole or that it can't stand behind those before: where
+/// no whole page and no end stands, `CutShort` for too few bytes or `Sum` for a sum that isn't theirs, with the place
+/// that a page there would have, unless a write that was cut short left these bytes: fewer than 64 MiB, at none of
+/// which a page or an end begins. Of a whole page what `judge_day` refuses. `Head` where bytes stand behind an end,
+/// with the place of the page that they would be. A file of the first form is read where it is over. `NoMemory` has
+/// the place 0.
 pub fn read_file(alloc: Global, file: &[u8]) -> Result<DayFile, (u32, FileFault)>
     ensures read { MatchResult result (λ read. Says file.now read.day read.ending)
         (λ fault. IsNoMemory fault.0 fault.1 ⊎ IsNoFile file.now fault.0 fault.1) }
@@ -66,7 +69,7 @@ fn read_parts(alloc: Global, file: &[u8]) -> Result<DayFile, (u32, FileFault)>
     let (pages, ending) = pages_of(alloc, form_of(file), file)?;
     match History::read(alloc, pages.as_slice()) {
         Ok(day) => Ok(DayFile { day, ending }),
-        Err((number, fault)) => Err((number, FileFault::Page(fault))),
+        Err(_) => Err((0, FileFault::Page(PageFault::NoMemory))),
     }
 }
 
@@ -94,7 +97,7 @@ fn is_end_of_one(file: &[u8]) -> bool
 }
 
 /// Whether a page's name stands at a place.
-fn has_at(file: &[u8], place: usize, name: &[u8; 4]) -> bool
+pub(crate) fn has_at(file: &[u8], place: usize, name: &[u8; 4]) -> bool
     ensures { result ≡ spec.stands_at place name.now file.now }
 {
     match file.get(place..) {
@@ -103,21 +106,25 @@ fn has_at(file: &[u8], place: usize, name: &[u8; 4]) -> bool
     }
 }
 
-/// The whole pages of a file of a form and how it ends behind them, or why it is no file.
+/// The whole pages of a file of a form, which are a day, and how it ends behind them; or why it is no file.
 fn pages_of(alloc: Global, form: Version, file: &[u8]) -> Parted
     requires { form ≡ spec.form_of file.now }
-    ensures { MatchResult result (λ read. IsParted form file.now (texts read.0.items) read.1)
-        (λ fault. IsNoMemory fault.0 fault.1 ⊎ IsNoForm file.now fault.0 fault.1) }
+    ensures { MatchResult result (λ read. IsPartedDay form file.now (texts read.0.items) read.1)
+        (λ fault. IsNoMemory fault.0 fault.1 ⊎ IsNoFile file.now fault.0 fault.1) }
 {
+    let mut judge = DayJudge::new();
     let mut pages = Vec::new(alloc);
     let mut rest = file;
     'pages: loop {
         let (page, behind) = match first_sized(form, rest) {
             Ok(parts) => parts,
-            Err(fault) => return unfinished(form, pages, rest, fault),
+            Err(fault) => return unfinished(form, &judge, pages, rest, fault),
         };
         if page.is_empty() {
-            return whole(pages, behind);
+            return whole(&judge, pages, behind);
+        }
+        if let Err((number, fault)) = judge.take(page) {
+            return Err((number, FileFault::Page(fault)));
         }
         if push_page(&mut pages, page).is_err() {
             return Err((0, FileFault::Page(PageFault::NoMemory)));
@@ -126,28 +133,46 @@ fn pages_of(alloc: Global, form: Version, file: &[u8]) -> Parted
     }
 }
 
-/// The pages before an end, behind which nothing may stand.
-fn whole(pages: Vec<Vec<u8>>, behind: &[u8]) -> Parted
-    ensures { MatchResult result (λ read. (read.0 ≡ pages) × (read.1 ≡ Over) × (behind.now ≡ []))
-        (λ fault. (fault.0 ≡ min (length pages.items) 4_294_967_295) × (fault.1 ≡ faults.Page Head)
-        × (1 ≤ length behind.now)) }
+/// The pages before an end: they are a day, and nothing may stand behind.
+fn whole(judge: &DayJudge, pages: Vec<Vec<u8>>, behind: &[u8]) -> Parted
+    ensures { MatchResult result
+        (λ read. (read.0 ≡ pages) × (read.1 ≡ Over) × (behind.now ≡ [])
+        × (day_fault (version_of judge.now) judge.now ≡ None))
+        (λ fault. IsOpenAt judge.now fault.0 fault.1 ⊎ ((fault.0 ≡ min (length judge.now) 4_294_967_295)
+        × (fault.1 ≡ faults.Page Head) × (1 ≤ length behind.now)
+        × (day_fault (version_of judge.now) judge.now ≡ None))) }
 {
+    if let Err((number, fault)) = judge.end() {
+        return Err((number, FileFault::Page(fault)));
+    }
     if behind.is_empty() {
         Ok((pages, Ending::Over))
     } else {
-        Err((number_behind(&pages), FileFault::Page(PageFault::Head)))
+        Err((judge.count(), FileFault::Page(PageFault::Head)))
     }
 }
 
 /// The pages before bytes in front of which no page stands, for this reason: the day goes on where a write that was cut
-/// short left them, or there are none.
-fn unfinished(form: Version, pages: Vec<Vec<u8>>, rest: &[u8], fault: FileFault) -> Parted
-    ensures { MatchResult result (λ read. (read.0 ≡ pages) × EndsBy form rest.now read.1)
-        (λ why. (why.0 ≡ min (length pages.items) 4_294_967_295) × (why.1 ≡ fault)
-        × (endings.is_unfinished form rest.now ≡ false)) }
+/// short left them, or there are none, and the pages are a day.
+fn unfinished(
+    form: Version,
+    judge: &DayJudge,
+    pages: Vec<Vec<u8>>,
+    rest: &[u8],
+    fault: FileFault,
+) -> Parted
+    ensures { MatchResult result
+        (λ read. (read.0 ≡ pages) × EndsBy form rest.now read.1
+        × (day_fault (version_of judge.now) judge.now ≡ None))
+        (λ why. (IsOpenAt judge.now why.0 why.1 × (endings.is_unfinished form rest.now ≡ true))
+        ⊎ ((why.0 ≡ min (length judge.now) 4_294_967_295) × (why.1 ≡ fault)
+        × (endings.is_unfinished form rest.now ≡ false))) }
 {
     if !is_unfinished(form, rest) {
-        return Err((number_behind(&pages), fault));
+        return Err((judge.count(), fault));
+    }
+    if let Err((number, fault)) = judge.end() {
+        return Err((number, FileFault::Page(fault)));
     }
     if rest.is_empty() {
         return Ok((pages, Ending::GoesOn));
@@ -156,7 +181,7 @@ fn unfinished(form: Version, pages: Vec<Vec<u8>>, rest: &[u8], fault: FileFault)
 }
 
 /// Whether the day may go on in front of these bytes, once they are cut.
-fn is_unfinished(form: Version, rest: &[u8]) -> bool
+pub(crate) fn is_unfinished(form: Version, rest: &[u8]) -> bool
     ensures { result ≡ endings.is_unfinished form rest.now }
 {
     match form {
@@ -187,13 +212,6 @@ fn stands_in_front(bytes: &[u8]) -> bool
         Ok(_) => true,
         Err(_) => false,
     }
-}
-
-/// The place of the page behind these; past 2^32 - 1 it stays.
-fn number_behind(pages: &[Vec<u8>]) -> u32
-    ensures { result ≡ min (length pages.now) 4_294_967_295 }
-{
-    pages.len().min(4_294_967_295) as u32
 }
 
 /// A page more, copied.
@@ -233,7 +251,7 @@ fn first_of_length<'a>(bytes: &'a [u8]) -> Result<Parts<'a>, FileFault>
 }
 
 /// The same of the second form.
-fn first_of_sum<'a>(bytes: &'a [u8]) -> Result<Parts<'a>, FileFault>
+pub(crate) fn first_of_sum<'a>(bytes: &'a [u8]) -> Result<Parts<'a>, FileFault>
     ensures { MatchResult result (λ parts. bytes.now ≡ sized_page Two parts.0.now ++ parts.1.now)
         (λ fault. front_fault Two bytes.now ≡ Some fault) }
 {
