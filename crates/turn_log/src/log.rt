@@ -70,6 +70,8 @@ impl<F: LogFile> TurnLog<F> {
         ensures kept { OnErr result ((before : List (List ℕ)) → HasDay F.seen F.may_leave before self.old
             → HasDay F.seen F.may_leave before self.new) }
         ensures failed { IsErrOf result Failed → self.new.shut ≡ Some Failed }
+        ensures over { IsErrOf result Ended → self.old.shut ≡ Some Ended }
+        ensures open { OnOk result (self.new.shut ≡ self.old.shut) }
         ensures history { history.now ≡ kept_in history.now.pages }
     {
         let RecentPages { left, pages } = history.recent();
@@ -98,6 +100,7 @@ impl<F: LogFile> TurnLog<F> {
             → IsMoreOf before history.now.pages → HasEnd F.seen F.may_leave history.now.pages self.new.file) }
         ensures ended { OnOk result (self.new.shut ≡ Some Ended) }
         ensures failed { IsErrOf result Failed → self.new.shut ≡ Some Failed }
+        ensures over { IsErrOf result Ended → self.old.shut ≡ Some Ended }
         ensures kept { (before : List (List ℕ)) → HasDay F.seen F.may_leave before self.old
             → IsMoreOf before history.now.pages → HasDay F.seen F.may_leave before self.new
             ⊎ HasDay F.seen F.may_leave history.now.pages self.new }
@@ -119,6 +122,7 @@ fn put_page<F: LogFile>(log: &mut DayLog<F>, page: &[u8]) -> Result<(), LogFault
         → HasPages F.seen F.may_leave before log.old.file log.old.shut
         → HasPages F.seen F.may_leave before log.new.file log.new.shut) }
     ensures failed { IsErrOf result Failed → log.new.shut ≡ Some Failed }
+    ensures over { IsErrOf result Ended → log.old.shut ≡ Some Ended }
 {
     if page.len() <= FRONT {
         return Ok(());
