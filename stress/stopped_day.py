@@ -91,7 +91,7 @@ class StoppedDay(Day):
         self.settings.write_text(before.replace('firm = "FIRM"', 'firm = "ELSE"'))
         ran = self.of_journal("end")
         self.is_so("with other settings it isn't ended: " + ran.stderr.strip().splitlines()[-1],
-                   (ran.returncode, ran.stdout) == (1, "") and "isn't what these settings give" in ran.stderr)
+                   (ran.returncode, ran.stdout) == (2, "") and "isn't what these settings give" in ran.stderr)
         self.settings.write_text(before)
         ran = self.of_journal("end")
         self.is_so("end --journal ends it, and has its audit",

@@ -175,7 +175,7 @@ def another_day(stage):
     other.write_text(own.read_text().replace('comp = "GATE"', 'comp = "GATF"'))
     before = (stage.folder / "day").read_bytes()
     status, output, told = stage.asked("end", "--settings", str(other), "--journal", journal)
-    stage.same("by other settings", (1, "", "gateway: journal: event 1 isn't what these settings give"),
+    stage.same("by other settings", (2, "", "gateway: journal: event 1 isn't what these settings give"),
                (status, output, told.splitlines()[-1:] and told.splitlines()[-1]))
     stage.holds("the journal is as it was", (stage.folder / "day").read_bytes() == before)
     stage.same("by its own", (0, "orders 0 agree 0\n"),

@@ -112,9 +112,9 @@ The day of a gateway that was killed, or whose machine stopped, is ended by its 
 
 What the journal has is stepped again and compared, each link that was up is gone, nobody is connected, the journal has
 its end, the audit of the day is printed, and orders that are open at the market, or that it hasn't answered, are named
-on standard error. The status is 0 where all orders agree, 1 where one doesn't, where the day isn't what these settings
-give, where memory runs out or the journal can't be written, 2 where the settings are refused, or for a journal that
-isn't there, is in use, over or damaged.";
+on standard error. The status is 0 where all orders agree, 1 where one doesn't, where memory runs out or the journal
+can't be written, 2 where the settings are refused, or for a journal that isn't there, is in use, over, damaged or not
+what these settings give.";
 
 /// Of `gateway export`.
 pub(crate) const EXPORT: &str = "\

@@ -3,6 +3,7 @@
 ghost use Rattle.std.specs.Prelude.{◌≡◌, ◌≤◌, true, IfOk, MatchOption};
 ghost use Rattle.gate_law.specs.Holds.{Holds};
 ghost use Rattle.audit_lines.specs.gate_audit.gate_journal.Kept.{turns};
+ghost use Rattle.gateway_run.specs.Faults.{status_of};
 ghost use Rattle.gateway_run.specs.Told.{AuditIsShown, AuditIsTold, AuditIsToldOf, IsFileRead, IsFileSaying};
 ghost use Rattle.gateway_run.specs.Told.{NobodyIsUp};
 
@@ -314,9 +315,10 @@ pub fn end_day<W: Write, F: Write>(
     tell(RunFault::NoDay, faults)
 }
 
-/// Tells why a gateway could not run to its end, and answers its program's status: 1.
+/// Tells why a gateway could not run to its end, and answers its program's status: 2 where a journal's day isn't what
+/// these settings give, else 1.
 pub fn tell<F: Write>(fault: RunFault, faults: &mut F) -> u8
-    ensures { result ≡ 1 }
+    ensures { result ≡ status_of fault }
 {
     let _ = match fault {
         RunFault::NoMemory => writeln!(faults, "out of memory"),
@@ -328,5 +330,8 @@ pub fn tell<F: Write>(fault: RunFault, faults: &mut F) -> u8
         RunFault::LinkUp => writeln!(faults, "gateway: journal: a link is up at the day's end"),
         RunFault::NoDay => writeln!(faults, "gateway: journal: it doesn't have the day"),
     };
-    1
+    match fault {
+        RunFault::OtherDay(_) => 2,
+        _ => 1,
+    }
 }
