@@ -21,6 +21,7 @@ mod Playing
 mod Resting
 mod Passing
 mod Rereading
+mod Keeping
 mod Clients
 mod Owning
 mod Ports

@@ -5,9 +5,10 @@ use Rattle.gate_law.specs.Events.{Batch, History}
 use Rattle.order_law.specs.declared.account.Account.{Account}
 use Rattle.order_law.specs.Headline.{Each}
 use Rattle.order_law.specs.Life.{account_of, life}
-use Rattle.order_law.specs.Reading.{account_read, reading, unread}
+use Rattle.order_law.specs.Reading.{account_read, reading}
 use Rattle.order_accounts.specs.Held.{IsHeld, StaysHeld, heard_on}
 use Rattle.order_accounts.specs.ouch_codec.declared.outbound.Outbound.{Outbound}
+use Rattle.gate_audit.specs.declared.fix_account.FixAccount.{FixAccount}
 use Rattle.gate_audit.specs.Pairs.{OpenedOrder, Pair, SaidToClient, paired, told_anyone}
 use Rattle.gate_audit.specs.Read.{ReadOrder}
 
@@ -29,10 +30,6 @@ sent_to client (x ∷ earlier) = if x.client == client then x.report ∷ sent_to
 
 abbrev pub order_id : ReadOrder → List ℕ
 order_id o = o.order
-
--- an order of which nothing was read
-abbrev pub unread_order : OpenedOrder → ReadOrder
-unread_order o = record { client = o.client; order = o.order; id = o.id; reading = unread }
 
 -- one report more to a client makes of an order what it makes of the client's own
 abbrev pub hears : ℕ → Message → ReadOrder → ReadOrder
@@ -72,8 +69,20 @@ changed_at f (k ∷ ks) xs = changed_at f ks (changed f k xs)
 abbrev pub said_of : List Outbound → OpenedOrder → Account
 said_of handled o = account_of (life o.root o.side handled)
 
--- readings, each with its order's other account
-abbrev pub pairs_with : List ReadOrder → List Account → List Pair
+-- an order as the reports of its client have it
+abbrev pub fix_in : List SaidToClient → OpenedOrder → FixAccount
+fix_in all o = record {
+  client = o.client;
+  id = o.id;
+  account = account_read (reading o.order (sent_to o.client all));
+}
+
+-- what was read of these orders stays within integers
+abbrev pub StayHeld : List SaidToClient → List OpenedOrder → Type 0
+StayHeld all os = Each (λ (o : OpenedOrder). StaysHeld o.order (sent_to o.client all)) os
+
+-- orders by their clients' reports, each with its other account
+abbrev pub pairs_with : List FixAccount → List Account → List Pair
 pairs_with [] said = []
 pairs_with (o ∷ os) [] = []
-pairs_with (o ∷ os) (x ∷ said) = paired o.client o.id (account_read o.reading) x ∷ pairs_with os said
+pairs_with (o ∷ os) (x ∷ said) = paired o.client o.id o.account x ∷ pairs_with os said

@@ -9,14 +9,19 @@
 
 mod accepted;
 mod accounts;
-mod first_pass;
+mod day_audit;
+mod fix_account;
+mod fix_accounts;
+mod kept_readings;
 mod lives;
 mod messages;
 mod opening;
 mod openings;
+mod order_key;
 mod order_pair;
 mod order_reading;
 mod order_readings;
+mod paired;
 mod pairs;
 mod played;
 mod port_again;
@@ -24,6 +29,7 @@ mod reports;
 
 pub use accounts::readings;
 pub use closed_world::{BookRow, Choice, WorldStep};
+pub use day_audit::DayAudit;
 pub use gate_core::Settings;
 pub use gate_events::PortNumber;
 pub use gate_journal::History;

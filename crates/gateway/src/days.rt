@@ -2,14 +2,13 @@
 
 use super::no_seed;
 use gateway_run::{
-    Day, DayJournal, History, RunFault, Settings, SettingsFile, audit_day, end_day, end_stopped,
-    run_settings, tell,
+    AuditedDay, Day, DayJournal, RunFault, SettingsFile, end_day, end_stopped, run_settings, tell,
 };
 use gateway_serve::{Bound, OperatorSettings, serve_day, tell_open_orders};
 use std::alloc::Global;
 use std::fs::{File, Files};
 use std::hash::RandomState;
-use std::io::{self, BufWriter, Read, Write};
+use std::io::{self, BufWriter, Write};
 use std::net::{Net, TcpListener, TcpStream};
 use std::process::ExitCode;
 use std::random::RandomSource;
@@ -174,75 +173,37 @@ fn status_of<R: Files<File = File>, W: Write, F: Write>(
     output: &mut W,
     faults: &mut F,
 ) -> u8 {
-    match path {
-        Some(path) => written_status(rt, alloc, day, path, tells_open, output, faults),
-        None => whole_status(alloc, &day, tells_open, output, faults),
-    }
-}
-
-/// The same of a day whose history is in memory.
-fn whole_status<W: Write, F: Write>(
-    alloc: Global,
-    day: &Day,
-    tells_open: bool,
-    output: &mut W,
-    faults: &mut F,
-) -> u8 {
-    let status = audit_day(alloc, day, output, faults);
-    match day.history() {
-        Some(history) if tells_open => with_open(alloc, history, day.settings(), status, faults),
-        _ => status,
-    }
-}
-
-/// The same of a day with a journal at this path, which is read again.
-fn written_status<R: Files<File = File>, W: Write, F: Write>(
-    rt: &R,
-    alloc: Global,
-    day: Day,
-    path: &str,
-    tells_open: bool,
-    output: &mut W,
-    faults: &mut F,
-) -> u8 {
-    let Ok(file) = bytes_at(rt, alloc, path) else {
-        let status = whole_status(alloc, &day, tells_open, output, faults);
-        let _ = writeln!(faults, "gateway: cannot read {path}");
-        return status.max(1);
+    let audited = match path {
+        Some(path) => match written_at(rt, path) {
+            Ok(mut file) => day.audited_by(alloc, &mut file),
+            Err(_) => {
+                let _ = writeln!(faults, "gateway: cannot read {path}");
+                day.audited(alloc).map(unwritten)
+            }
+        },
+        None => day.audited(alloc),
     };
-    let read = match day.read_again(alloc, file.as_slice()) {
-        Ok(read) => read,
+    let day = match audited {
+        Ok(day) => day,
         Err(fault) => return tell(fault, faults),
     };
-    drop(file);
-    let status = end_day(alloc, &read, output, faults);
-    if tells_open {
-        with_open(alloc, &read.history, &read.settings, status, faults)
-    } else {
-        status
+    let status = end_day(alloc, &day, output, faults);
+    if tells_open && !tell_open_orders(alloc, &day.pairs, &day.settings, faults) {
+        return status.max(1);
     }
+    status
 }
 
-/// A status, once the orders that aren't over were named: 1 where not all of them could be.
-fn with_open<F: Write>(
-    alloc: Global,
-    history: &History,
-    settings: &Settings,
-    status: u8,
-    faults: &mut F,
-) -> u8 {
-    if tell_open_orders(alloc, history, settings, faults) {
-        status
-    } else {
-        status.max(1)
-    }
+/// The same day, which its journal doesn't have.
+fn unwritten(day: AuditedDay) -> AuditedDay {
+    let mut day = day;
+    day.has_day = false;
+    day
 }
 
-/// The bytes of a file, all of it on the disk: also where syncing it was left for later.
-fn bytes_at<R: Files<File = File>>(rt: &R, alloc: Global, path: &str) -> io::Result<Vec<u8>> {
-    let mut file = File::open(rt, path)?;
+/// The file of a journal, all of it on the disk: also where syncing it was left for later.
+fn written_at<R: Files<File = File>>(rt: &R, path: &str) -> io::Result<File> {
+    let file = File::open(rt, path)?;
     file.sync_all()?;
-    let mut bytes = Vec::new(alloc);
-    let _ = file.read_to_end(&mut bytes)?;
-    Ok(bytes)
+    Ok(file)
 }

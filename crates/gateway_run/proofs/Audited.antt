@@ -1,0 +1,36 @@
+-- The audit of a day that is over, by its file.
+use Rattle.std.proofs.Common.{◌≡◌, ◌<◌, ◌^◌, ◌∙◌, ℕ, Bool, true, false, List, Option, Some, None, Result, Ok, Err, length}
+use Rattle.std.proofs.Common.{IfOk, sym, ap, subst}
+use Rattle.gate_law.specs.Events.{History}
+use Rattle.gate_law.specs.Settings.{Settings}
+use Rattle.gate_journal.specs.Kept.{Kept, turns}
+use Rattle.host_log.specs.declared.host_file.HostFile.{HostFile}
+use Rattle.host_log.specs.Seen.{host_seen}
+use Rattle.turn_log.specs.Kept.{TurnLogState}
+use Rattle.desk_gates.specs.desk.Ahead.{IsEnded}
+use Rattle.gateway_run.specs.declared.day.AuditedDay.{AuditedDay}
+use Rattle.gateway_run.specs.Told.{FileHas, IsAuditOf, IsFileAudited, IsFileRead, IsFileSaying, IsSeen}
+
+-- of a history in memory that its file has
+pub whole-has : {E : Type 0} (s : Settings) (h : History) (r : Result AuditedDay E)
+    → IfOk r (λ d. IsAuditOf s h d.pairs.items) → IfOk r (λ d. d.has_day ≡ true → IsFileSaying h d.read.bytes)
+    → IfOk r (λ d. d.has_day ≡ true → IsFileAudited s d.read.bytes d.pairs.items)
+whole-has s h (Ok d) audit has = λ is.
+    let says = has is in
+    record {
+      day = says.day;
+      says = says.says;
+      audit = subst (λ (x : History). IsAuditOf s x d.pairs.items) (sym says.same) audit;
+    }
+whole-has s h (Err e) audit has = tt
+
+-- of a history whose file was given all of it, and its end
+pub written-file : {E : Type 0} (s : Settings) (kept : Kept) (journal : Option (TurnLogState HostFile)) (lost : Bool)
+    (size : ℕ) (r : Result AuditedDay E) → size < 2 ^ 64 → FileHas journal size
+    → (lost ≡ false → IsEnded kept journal)
+    → IfOk r (λ d. IsFileRead s kept d.read.bytes d.pairs.items d.has_day)
+    → IfOk r (λ d. lost ≡ false → IsSeen journal d.read.bytes → IsAuditOf s (turns kept) d.pairs.items)
+written-file s kept None lost size (Ok d) few has ended read = λ kept_on seen. absurd seen
+written-file s kept (Some log) lost size (Ok d) few has ended read = λ kept_on seen.
+    read.same log.file (ended kept_on) (subst (λ (n : ℕ). n < 2 ^ 64) (has ∙ ap length (sym seen)) few) seen
+written-file s kept journal lost size (Err e) few has ended read = tt

@@ -1,0 +1,10 @@
+use Rattle.gate_law.specs.Settings.{Settings}
+use Rattle.gate_journal.specs.Kept.{kept_in, turns}
+use Rattle.std.proofs.Common.{[]}
+use Rattle.gate_audit.specs.Auditing.{IsAuditing}
+use Rattle.gateway_run.proofs.day.take_file.Given as goal
+
+-- the audit is that of what was given
+abbrev pub invariant-loop : goal.invariant-loop
+invariant-loop g l = (s : Settings) → IsAuditing s [] l.initial.audit
+    → IsAuditing s (turns (kept_in l.reader.told)) l.audit
