@@ -1,3 +1,4 @@
 mod Behind
 mod Growing
 mod Turning
+pub mod Parted

@@ -1,5 +1,5 @@
 -- What a history keeps.
-use Rattle.std.specs.Prelude.{◌≡◌, ℕ, List, [], ◌∷◌, None}
+use Rattle.std.specs.Prelude.{◌≡◌, ℕ, List, [], ◌∷◌, ◌++◌, length, None}
 use Rattle.gate_law.specs.Events as law
 use Rattle.gate_events.specs.declared.event.Event.{Event}
 use Rattle.gate_events.specs.declared.source.Recipient.{Recipient}
@@ -45,6 +45,14 @@ turns_onto (e ∷ events) (b ∷ batches) before = turns_onto events batches (ke
 -- the same as the core's law has it: each event with its batch, the newest first
 abbrev pub turns : Kept → law.History
 turns h = turns_onto h.events h.batches []
+
+-- Pages with a part more behind them say the turns of both, in their order.
+pub record GoOnBy (before : List (List ℕ)) (part : Kept) (after : List (List ℕ)) : Type 0 where
+  pub all : after ≡ before ++ part.pages
+  pub told : (kept_in after).events ≡ (kept_in before).events ++ part.events
+  pub gave : (kept_in after).batches ≡ (kept_in before).batches ++ part.batches
+  pub count : length part.events ≡ length part.batches
+  pub onto : turns (kept_in after) ≡ turns_onto part.events part.batches (turns (kept_in before))
 
 -- what the batches told one link
 abbrev pub lists_kept : Recipient → Kept → List (List law.LinkOut)

@@ -14,6 +14,7 @@ ghost use Rattle.journal_records.specs.journal_days.Day as spec;
 ghost use Rattle.journal_records.specs.journal_days.Day.{version_of};
 ghost use Rattle.journal_records.specs.Parts.{turn_records};
 
+use crate::turn_pages::TurnPages;
 use crate::turns::Turns;
 use gate_events::{Batch, Event, Recipient, Source, Told, told_lists};
 use journal_pages::{PageFault, RecordKind};
@@ -143,6 +144,15 @@ impl History {
         self.pages.as_slice()
     }
 
+    /// The same as pages that are owned. Takes no memory.
+    pub fn into_pages(self) -> TurnPages
+        ensures pages { result ≡ self }
+        ensures day { day_fault Two result.pages ≡ None }
+    {
+        let History { pages } = self;
+        TurnPages::of(pages.into_vec())
+    }
+
     /// The history that pages are, all of version 1 or all of version 2; or the place of the first page with which
     /// something is wrong, from 0, and what: what is wrong with the page alone (`Head` where it is of another version
     /// than the first), then `Number` where its number isn't that of the records before it, then what is wrong with its
@@ -165,7 +175,7 @@ impl History {
 }
 
 /// How many of these records are events.
-fn count_of(records: DayRecords<'_>) -> u64
+pub(crate) fn count_of(records: DayRecords<'_>) -> u64
     ensures { result ≡ length (batches_in (records_left records.entry)) % 2 ^ 64 }
 {
     let mut ahead = records;

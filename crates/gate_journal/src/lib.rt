@@ -6,6 +6,7 @@
 
 mod growing_history;
 mod history;
+mod turn_pages;
 mod turns;
 
 pub use gate_events::{Batch, ClientNumber, Event, LinkOut, PortNumber, Recipient, Source, Told};
@@ -14,4 +15,5 @@ pub use history::History;
 pub use journal_pages::{PageFault, Version};
 pub use short_list::ShortList;
 pub use soup_session::PortFault;
+pub use turn_pages::TurnPages;
 pub use turns::Turns;

@@ -9,7 +9,7 @@ use Rattle.journal_pages.specs.declared.place.Place.{Place}
 use Rattle.journal_pages.specs.declared.place.Place.TheVariants.{BetweenBatches}
 use Rattle.journal_pages.specs.declared.version.Version.{Version}
 use Rattle.journal_pages.specs.Ordered.{order_fault, place_behind}
-use Rattle.journal_pages.specs.Page.{page_fault, page_records, unless, version_named}
+use Rattle.journal_pages.specs.Page.{page_fault, page_records, version_named}
 use Rattle.journal_pages.proofs.Listed.{both-none}
 use Rattle.journal_days.specs.Begun.{begun_fault, begun_from, number_of_next, place_of_last, place_of_next}
 use Rattle.journal_days.specs.Begun.{place_of_records, version_seen}

@@ -1,5 +1,5 @@
 -- Pages with which a day begins: others may stand behind them. The format is the gateway's own.
-use Rattle.std.specs.Prelude.{◌≡◌, ℕ, List, [], ◌∷◌, Option, Some, None, false}
+use Rattle.std.specs.Prelude.{ℕ, List, [], ◌∷◌, Option, Some, None, false}
 use Rattle.journal_pages.specs.declared.fault.PageFault.{PageFault}
 use Rattle.journal_pages.specs.declared.place.Place.{Place}
 use Rattle.journal_pages.specs.declared.place.Place.TheVariants.{BetweenBatches}

@@ -8,3 +8,4 @@ pub use Rattle.journal_pages.specs.Ordered
 pub use Rattle.journal_pages.specs.Page
 pub use Rattle.journal_pages.specs.Record
 pub use Rattle.journal_pages.specs.Seen
+mod Worked

@@ -168,6 +168,13 @@ impl DayPages {
         &self.pages
     }
 
+    /// The pages themselves, the oldest first. Takes no memory.
+    pub fn into_vec(self) -> Vec<Vec<u8>>
+        ensures { texts result.items ≡ self }
+    {
+        self.pages
+    }
+
     /// Drops the first page, where there is one. Takes no memory.
     pub fn drop_first(&mut self)
         ensures { self.new ≡ drop 1 self.old }

@@ -2,7 +2,7 @@
 use Rattle.std.proofs.Common.{◌≡◌, ◌≤◌, ◌<◌, ℕ, true, false, List, [], ◌∷◌, ◌++◌, Vec, Some, None, length, inl, inr, refl}
 use Rattle.std.proofs.Common.{sym, ap, subst, ◌∙◌, arith, append_assoc, length-append}
 use Rattle.std.proofs.lemmas.Bool.Decides.{nat_tests}
-use Rattle.std.proofs.lemmas.List.{append-nil, length-map}
+use Rattle.std.proofs.lemmas.List.{append-nil}
 use Rattle.std.proofs.lemmas.Bool.{true≢false}
 use Rattle.std.specs.Prelude.{◌⊎◌, ◌==◌, min, Result, Ok, Err, MatchResult, OnOk, is_err}
 use Rattle.std.specs.declared.alloc.Global.{Global}
@@ -18,7 +18,7 @@ use Rattle.journal_file.specs.declared.fault.FileFault.TheVariants as whys
 use Rattle.journal_file.specs.declared.ending.Ending.{Ending}
 use Rattle.journal_file.specs.declared.ending.Ending.TheVariants.{Over}
 use Rattle.journal_file.specs.Endings.{EndsBy, is_unfinished}
-use Rattle.journal_file.specs.File.{AreNotEmpty, before_page, file_of, form_of, front_fault, sized_page, sized_pages}
+use Rattle.journal_file.specs.File.{AreNotEmpty, file_of, form_of, front_fault, sized_page, sized_pages}
 use Rattle.journal_file.specs.Said.{EndsInBatch, IsBehindLast, IsNoFile, IsNoMemory, IsOpenAt, IsPartedDay}
 
 pub full-more : (pages : List (List ℕ)) (page : List ℕ) → AreNotEmpty pages → 1 ≤ length page

@@ -34,7 +34,6 @@ use Rattle.journal_file.specs.Said.{IsBehindLast, IsNoFile, IsParted, ReadsInFro
 use Rattle.journal_file.specs.Said.{Says}
 use Rattle.journal_file.proofs.One.{few-front, long, whole-front}
 use Rattle.journal_file.proofs.Parted.{NoPage, along, no-fault, no-page-broken, no-page-by, no-page-over, no-page-unfinished}
-use Rattle.journal_file.proofs.Parted.{none-long}
 use Rattle.journal_file.proofs.Parted.{pages-in-front, pages-once, parted-once, whole-lasts}
 
 -- ---- refused for nothing

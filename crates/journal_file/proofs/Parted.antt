@@ -1,6 +1,6 @@
 -- Bytes are parted in one way into whole pages and what stands behind them.
-use Rattle.std.proofs.Common.{◌≡◌, ◌≤◌, ◌<◌, ◌^◌, ℕ, ◌+◌, Bool, true, false, Some, None, List, [], ◌∷◌, ◌++◌, length}
-use Rattle.std.proofs.Common.{refl, sym, ap, subst, ◌∙◌, arith, append_assoc, append-nil, length-append}
+use Rattle.std.proofs.Common.{◌≡◌, ◌≤◌, ◌<◌, ◌^◌, ℕ, Bool, true, false, Some, None, List, [], ◌∷◌, ◌++◌, length}
+use Rattle.std.proofs.Common.{refl, sym, ap, subst, ◌∙◌, arith, append_assoc, append-nil}
 use Rattle.std.specs.Prelude.{◌&&◌, ◌||◌, not, is_none}
 use Rattle.std.proofs.lemmas.Bool.{true≢false}
 use mathlib.Core.List.{IsPrefix}
@@ -10,7 +10,7 @@ use Rattle.journal_file.specs.declared.ending.Ending.{Ending}
 use Rattle.journal_file.specs.declared.ending.Ending.TheVariants.{GoesOn, Over, Torn}
 use Rattle.journal_file.specs.declared.fault.FileFault.{FileFault}
 use Rattle.journal_file.specs.Endings.{EndsBy, is_unfinished, stands_in_front, stands_somewhere}
-use Rattle.journal_file.specs.File.{AreNotEmpty, before_size, front_fault, sized_page, sized_pages}
+use Rattle.journal_file.specs.File.{AreNotEmpty, front_fault, sized_page, sized_pages}
 use Rattle.journal_file.specs.Said.{IsParted}
 use Rattle.journal_file.proofs.One.{behind-size, few-behind, few-front, long, no-end, same-behind, same-front}
 use Rattle.journal_file.proofs.One.{same-size, some-before, whole-front}

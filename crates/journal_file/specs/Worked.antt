@@ -3,8 +3,8 @@ use Rattle.std.specs.Prelude.{◌≡◌, ℕ, true, false, List, [], ◌∷◌, 
 use Rattle.journal_pages.specs.declared.fault.PageFault.TheVariants as pages
 use Rattle.journal_pages.specs.declared.version.Version.TheVariants.{One, Two}
 use Rattle.journal_file.specs.declared.fault.FileFault.TheVariants as faults
-use Rattle.journal_file.specs.Endings.{is_unfinished, stands_in_front}
-use Rattle.journal_file.specs.File.{file_of, form_of, front_fault, is_end_of_one, sized_page}
+use Rattle.journal_file.specs.Endings.{is_unfinished}
+use Rattle.journal_file.specs.File.{file_of, form_of, front_fault, sized_page}
 
 -- a page of nine bytes, a word and one more: what a page says is of no matter here
 abbrev page : List ℕ

@@ -10,14 +10,21 @@
 mod ending;
 mod fault;
 mod laws;
+mod read_fault;
+mod reader;
 mod reading;
+mod sized_bytes;
 mod sum;
+mod window;
 mod writing;
 
 pub use ending::Ending;
 pub use fault::FileFault;
 pub use journal_pages::PageFault;
 pub use laws::{files_are_one, files_are_read};
+pub use read_fault::ReadFault;
+pub use reader::{DayReader, NextTurns};
 pub use reading::{DayFile, read_file};
+pub use sized_bytes::{SizedBytes, TooManyBytes};
 pub use sum::sum_of;
 pub use writing::write_day;

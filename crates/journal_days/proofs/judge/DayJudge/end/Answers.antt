@@ -1,4 +1,4 @@
-use Rattle.std.proofs.Common.{◌≡◌, List, ℕ, sym, subst, ◌∙◌}
+use Rattle.std.proofs.Common.{List, ℕ, sym, subst, ◌∙◌}
 use Rattle.journal_days.specs.Judged.{HasJudged}
 use Rattle.journal_days.specs.Day.{version_of}
 use Rattle.journal_days.proofs.Begun.{is-closed, is-open}

@@ -1,0 +1,7 @@
+-- The pages so far are noted.
+use Rattle.std.proofs.Common.{◌≡◌, ◌++◌, take}
+use Rattle.journal_days.specs.Cut.{texts}
+use Rattle.journal_file.proofs.reader.note_pages.Given as goal
+
+abbrev pub invariant-loop-page : goal.invariant-loop-page
+invariant-loop-page l = l.told.pages ≡ l.initial.told.pages ++ texts (take l.page-index l.pages)
