@@ -21,6 +21,8 @@ mod Playing
 mod Resting
 mod Passing
 mod Rereading
+mod Keeping
 mod Clients
+mod Made
 mod Owning
 mod Ports

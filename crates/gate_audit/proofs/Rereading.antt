@@ -193,7 +193,7 @@ nothing-held = record {
   prices = tt;
 }
 
-now-held : (order : List ℕ) (sent : List Message) → StaysHeld order sent → IsHeld (reading order sent)
+pub now-held : (order : List ℕ) (sent : List Message) → StaysHeld order sent → IsHeld (reading order sent)
 now-held order [] held = nothing-held
 now-held order (r ∷ earlier) held = held.0
 

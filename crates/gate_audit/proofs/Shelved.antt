@@ -15,6 +15,22 @@ filtered-more : {X : Type 0} (p : X → Bool) (xs : List X) (i : ℕ) (x : X) �
 filtered-more p xs i x inside is = ap (filter p) (take_more xs i x inside ∙ ap (λ y. take i xs ++ y ∷ []) (sym is))
     ∙ filter-append p (take i xs) (x ∷ [])
 
+-- behind others
+pub own-more : {X : Type 0} (p : X → Bool) (xs : List X) (i : ℕ) (x : X) (old : List X) → i < length xs
+    → x ≡ get_or xs i x → p x ≡ true
+    → (old ++ filter p (take i xs)) ++ x ∷ [] ≡ old ++ filter p (take (i + 1) xs)
+own-more p xs i x old inside is passes =
+    let own : filter p (x ∷ []) ≡ x ∷ [] = rw passes refl in
+    append_assoc old (filter p (take i xs)) (x ∷ [])
+    ∙ ap (λ ys. old ++ ys) (sym (filtered-more p xs i x inside is ∙ ap (λ zs. filter p (take i xs) ++ zs) own))
+
+pub own-same : {X : Type 0} (p : X → Bool) (xs : List X) (i : ℕ) (x : X) (old : List X) → i < length xs
+    → x ≡ get_or xs i x → p x ≡ false → old ++ filter p (take i xs) ≡ old ++ filter p (take (i + 1) xs)
+own-same p xs i x old inside is fails =
+    let none : filter p (x ∷ []) ≡ [] = rw fails refl in
+    ap (λ zs. old ++ zs) (sym (filtered-more p xs i x inside is
+    ∙ (ap (λ zs. filter p (take i xs) ++ zs) none ∙ append-nil (filter p (take i xs)))))
+
 pub made-more : {X Y : Type 0} (f : X → Y) (p : X → Bool) (xs : List X) (i : ℕ) (x : X) (old : List Y) (y : Y)
     → i < length xs → x ≡ get_or xs i x → p x ≡ true → y ≡ f x
     → old ++ map f (filter p (take i xs)) ++ y ∷ [] ≡ old ++ map f (filter p (take (i + 1) xs))

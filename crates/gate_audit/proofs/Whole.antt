@@ -1,6 +1,6 @@
 -- The orders that whole reports open are those that their bodies open, and the pairs that are made of both are the
 -- same.
-use Rattle.std.proofs.Common.{◌≡◌, ◌+◌, ℕ, Bool, true, false, List, [], ◌∷◌, ◌++◌, Option, Some, None, map, reverse}
+use Rattle.std.proofs.Common.{◌≡◌, ◌≤◌, ◌+◌, ℕ, Bool, true, false, List, [], ◌∷◌, ◌++◌, Option, Some, None, map, reverse}
 use Rattle.std.proofs.Common.{length, refl, sym, ap, subst, ◌∙◌, arith, eqb-true}
 use Rattle.std.specs.Prelude.{◌==◌, if◌then◌else◌}
 use Rattle.order_accounts.specs.Held.{StaysHeld}
@@ -9,22 +9,18 @@ use Rattle.order_accounts.specs.ouch_codec.declared.outbound.Outbound.{Outbound}
 use Rattle.gate_law.specs.fix_fields.Field.{Message}
 use Rattle.order_law.specs.declared.account.Account.{Account}
 use Rattle.order_law.specs.Messages.{body_of}
-use Rattle.order_law.specs.Reading.{account_read}
 use Rattle.gate_core.proofs.order_machine.Executed.{count-more}
 use Rattle.gate_law.specs.Settings.{Settings}
 use Rattle.gate_law.specs.Events.{History, is_the_number}
 use Rattle.gate_law.specs.Holds.{told_by_batches}
-use Rattle.gate_audit.specs.Read.{ReadOrder, for_clients, opens_new_order}
+use Rattle.gate_audit.specs.Read.{for_clients, opens_new_order}
 use Rattle.gate_audit.specs.Pairs.{AllHeld, AreHeld, OpenedOrder, Pair, SaidToClient, gives_token, handled_for}
 use Rattle.gate_audit.specs.Pairs.{opened_order_at, opened_orders, orders_of, pair_in, paired, pairs, pairs_of}
 use Rattle.gate_audit.specs.Pairs.{said_to, said_to_clients, tokens_given, told_anyone}
-use Rattle.gate_audit.specs.Passes.{AreRead, StayRead, pairs_with, read_as, said_of, sent_to, told_whole}
-use Rattle.gate_audit.specs.Passes.{unread_order}
+use Rattle.gate_audit.specs.Passes.{StayHeld, fix_in, pairs_with, said_of, sent_to, told_whole}
 use Rattle.gate_audit.proofs.Lists.{filter-reverse, map-map, map-reverse, map-same}
 use Rattle.gate_audit.proofs.Held.{stays-bodily, stays-whole}
 use Rattle.gate_audit.proofs.Agreeing.{for-same}
-use Rattle.gate_audit.proofs.Shelved.{each-for, each-of-for}
-use Rattle.gate_audit.proofs.Rereading.{nothing-read}
 use Rattle.gate_audit.proofs.Bodies.{same-first, same-opens, same-reading}
 
 -- the same without what a session writes round it
@@ -145,33 +141,35 @@ pairs-whole s h c =
     ∙ map-same (pair_in (map body_of sent) (handled_for s h c)) (pair_in sent (handled_for s h c))
     (same-pair sent (handled_for s h c)) (orders_of c os)
 
--- readings of a client's orders, each with what the market said of it
+-- a client's orders, each with what was read of it and what the market said of it
 own-pairs : (all : List SaidToClient) (ms : List Outbound) (c : ℕ) (os : List OpenedOrder)
-    → pairs_with (map (read_as all) (map unread_order (orders_of c os))) (map (said_of ms) (orders_of c os))
+    → pairs_with (orders_of c os) (map (fix_in all) (orders_of c os)) (map (said_of ms) (orders_of c os))
     ≡ map (pair_in (sent_to c all) ms) (orders_of c os)
 own-pairs all ms c [] = refl
 own-pairs all ms c (o ∷ os) = by_test (o.client == c) refl (own-pairs all ms c os)
   where
-    by_test : (b : Bool) → (o.client == c) ≡ b
-        → pairs_with (map (read_as all) (map unread_order (orders_of c os))) (map (said_of ms) (orders_of c os))
-        ≡ map (pair_in (sent_to c all) ms) (orders_of c os)
-        → pairs_with (map (read_as all) (map unread_order (if b then o ∷ orders_of c os else orders_of c os)))
-        (map (said_of ms) (if b then o ∷ orders_of c os else orders_of c os))
-        ≡ map (pair_in (sent_to c all) ms) (if b then o ∷ orders_of c os else orders_of c os)
+    IsPaired : List OpenedOrder → Type 0
+    IsPaired own = pairs_with own (map (fix_in all) own) (map (said_of ms) own) ≡ map (pair_in (sent_to c all) ms) own
+
+    by_test : (b : Bool) → (o.client == c) ≡ b → IsPaired (orders_of c os)
+        → IsPaired (if b then o ∷ orders_of c os else orders_of c os)
     by_test true is rest =
-        ap (λ (k : ℕ). pair_in (sent_to k all) ms o ∷ pairs_with (map (read_as all) (map unread_order (orders_of c os)))
+        ap (λ (k : ℕ). pair_in (sent_to k all) ms o ∷ pairs_with (orders_of c os) (map (fix_in all) (orders_of c os))
         (map (said_of ms) (orders_of c os))) (eqb-true o.client c is)
         ∙ ap (λ (ps : List Pair). pair_in (sent_to c all) ms o ∷ ps) rest
     by_test false is rest = rest
 
-pub with-append : (os ps : List ReadOrder) (xs ys : List Account) → length os ≡ length xs
-    → pairs_with (os ++ ps) (xs ++ ys) ≡ pairs_with os xs ++ pairs_with ps ys
-with-append [] ps [] ys same = refl
-with-append [] ps (x ∷ xs) ys same = absurd (omega (arith, same))
-with-append (o ∷ os) ps [] ys same = absurd (omega (arith, same))
-with-append (o ∷ os) ps (x ∷ xs) ys same =
-    ap (λ (zs : List Pair). paired o.client o.id (account_read o.reading) x ∷ zs)
-    (with-append os ps xs ys (omega (arith, same)))
+with-append : (os os2 : List OpenedOrder) (xs xs2 ys ys2 : List Account) → length os ≡ length xs
+    → length os ≡ length ys
+    → pairs_with (os ++ os2) (xs ++ xs2) (ys ++ ys2) ≡ pairs_with os xs ys ++ pairs_with os2 xs2 ys2
+with-append [] os2 [] xs2 [] ys2 same also = refl
+with-append [] os2 [] xs2 (y ∷ ys) ys2 same also = absurd (omega (arith, also))
+with-append [] os2 (x ∷ xs) xs2 ys ys2 same also = absurd (omega (arith, same))
+with-append (o ∷ os) os2 [] xs2 ys ys2 same also = absurd (omega (arith, same))
+with-append (o ∷ os) os2 (x ∷ xs) xs2 [] ys2 same also = absurd (omega (arith, also))
+with-append (o ∷ os) os2 (x ∷ xs) xs2 (y ∷ ys) ys2 same also =
+    ap (λ (zs : List Pair). paired o.client o.id x y ∷ zs)
+    (with-append os os2 xs xs2 ys ys2 (omega (arith, same)) (omega (arith, also)))
 
 for-length : {X Y : Type 0} (f : ℕ → List X) (g : ℕ → List Y) → ((c : ℕ) → length (f c) ≡ length (g c)) → (n : ℕ)
     → length (for_clients f n) ≡ length (for_clients g n)
@@ -182,12 +180,16 @@ for-length f g same (ℕ.suc n) =
     length-append (for_clients f n) (f (ℕ.suc n))
     ∙ (omega (arith, before, next) ∙ sym (length-append (for_clients g n) (g (ℕ.suc n))))
 
-for-pairs : (f : ℕ → List ReadOrder) (g : ℕ → List Account) → ((c : ℕ) → length (f c) ≡ length (g c)) → (n : ℕ)
-    → pairs_with (for_clients f n) (for_clients g n) ≡ for_clients (λ c. pairs_with (f c) (g c)) n
-for-pairs f g same ℕ.zero = refl
-for-pairs f g same (ℕ.suc n) =
-    with-append (for_clients f n) (f (ℕ.suc n)) (for_clients g n) (g (ℕ.suc n)) (for-length f g same n)
-    ∙ ap (λ (ps : List Pair). ps ++ pairs_with (f (ℕ.suc n)) (g (ℕ.suc n))) (for-pairs f g same n)
+for-pairs : (e : ℕ → List OpenedOrder) (f g : ℕ → List Account) → ((c : ℕ) → length (e c) ≡ length (f c))
+    → ((c : ℕ) → length (e c) ≡ length (g c)) → (n : ℕ)
+    → pairs_with (for_clients e n) (for_clients f n) (for_clients g n)
+    ≡ for_clients (λ c. pairs_with (e c) (f c) (g c)) n
+for-pairs e f g same also ℕ.zero = refl
+for-pairs e f g same also (ℕ.suc n) =
+    with-append (for_clients e n) (e (ℕ.suc n)) (for_clients f n) (f (ℕ.suc n)) (for_clients g n) (g (ℕ.suc n))
+    (for-length e f same n) (for-length e g also n)
+    ∙ ap (λ (ps : List Pair). ps ++ pairs_with (e (ℕ.suc n)) (f (ℕ.suc n)) (g (ℕ.suc n)))
+    (for-pairs e f g same also n)
 
 pub map-for : {X Y : Type 0} (made : X → Y) (f : ℕ → List X) (n : ℕ)
     → map made (for_clients f n) ≡ for_clients (λ c. map made (f c)) n
@@ -196,43 +198,33 @@ map-for made f (ℕ.suc n) =
     map-append made (for_clients f n) (f (ℕ.suc n))
     ∙ ap (λ ys. ys ++ map made (f (ℕ.suc n))) (map-for made f n)
 
--- all orders that a history opened, by client
-abbrev pub orders_opened : Settings → History → List ReadOrder
-orders_opened s h = for_clients (λ c. map unread_order (orders_of c (reverse (opened_orders (told_whole h)))))
+-- the accounts of all orders that a history opened, by client
+abbrev pub fix_opened : Settings → History → List Account
+fix_opened s h = for_clients (λ c. map (fix_in (told_whole h)) (orders_of c (reverse (opened_orders (told_whole h)))))
     (length s.clients)
 
 abbrev pub said_opened : Settings → History → List Account
 said_opened s h = for_clients (λ c. map (said_of (handled_for s h c))
     (orders_of c (reverse (opened_orders (told_whole h))))) (length s.clients)
 
-length-both : (all : List SaidToClient) (ms : List Outbound) (os : List OpenedOrder)
-    → length (map (read_as all) (map unread_order os)) ≡ length (map (said_of ms) os)
-length-both all ms [] = refl
-length-both all ms (o ∷ os) = ap ℕ.suc (length-both all ms os)
-
-pub pairs-read : (s : Settings) (h : History) (rows : List ReadOrder) (said : List Account)
-    → rows ≡ map (read_as (told_whole h)) (orders_opened s h) → said ≡ said_opened s h
-    → pairs_with rows said ≡ pairs s h
-pairs-read s h rows said are_rows are_said =
+pub pairs-read : (s : Settings) (h : History) (os : List OpenedOrder) (n : ℕ) (fix said : List Account)
+    → os ≡ reverse (opened_orders (told_whole h)) → n ≡ length s.clients → fix ≡ fix_opened s h
+    → said ≡ said_opened s h → pairs_with (for_clients (λ c. orders_of c os) n) fix said ≡ pairs s h
+pairs-read s h os n fix said are_openings is_many are_fix are_said =
     let all = told_whole h in
     let O = reverse (opened_orders all) in
-    let f : ℕ → List ReadOrder = λ c. map (read_as all) (map unread_order (orders_of c O)) in
+    let e : ℕ → List OpenedOrder = λ c. orders_of c O in
+    let f : ℕ → List Account = λ c. map (fix_in all) (orders_of c O) in
     let g : ℕ → List Account = λ c. map (said_of (handled_for s h c)) (orders_of c O) in
-    let n = length s.clients in
-    ap (λ (rs : List ReadOrder). pairs_with rs said)
-    (are_rows ∙ map-for (read_as all) (λ c. map unread_order (orders_of c O)) n)
-    ∙ (ap (pairs_with (for_clients f n)) are_said
-    ∙ (for-pairs f g (λ c. length-both all (handled_for s h c) (orders_of c O)) n
-    ∙ for-same (λ c. pairs_with (f c) (g c)) (pairs_of s h)
-    (λ c. own-pairs all (handled_for s h c) c O ∙ sym (pairs-whole s h c)) n))
-
-same-many : (s : Settings) (h : History) → length (orders_opened s h) ≡ length (said_opened s h)
-same-many s h =
-    for-length (λ c. map unread_order (orders_of c (reverse (opened_orders (told_whole h)))))
-    (λ c. map (said_of (handled_for s h c)) (orders_of c (reverse (opened_orders (told_whole h)))))
-    (λ c. length-map (orders_of c (reverse (opened_orders (told_whole h)))) unread_order
-    ∙ sym (length-map (orders_of c (reverse (opened_orders (told_whole h)))) (said_of (handled_for s h c))))
-    (length s.clients)
+    let m = length s.clients in
+    ap (λ (xs : List OpenedOrder). pairs_with (for_clients (λ c. orders_of c xs) n) fix said) are_openings
+    ∙ (ap (λ (k : ℕ). pairs_with (for_clients e k) fix said) is_many
+    ∙ (ap (λ (xs : List Account). pairs_with (for_clients e m) xs said) are_fix
+    ∙ (ap (pairs_with (for_clients e m) (for_clients f m)) are_said
+    ∙ (for-pairs e f g (λ c. sym (length-map (e c) (fix_in all)))
+    (λ c. sym (length-map (e c) (said_of (handled_for s h c)))) m
+    ∙ for-same (λ c. pairs_with (e c) (f c) (g c)) (pairs_of s h)
+    (λ c. own-pairs all (handled_for s h c) c O ∙ sym (pairs-whole s h c)) m))))
 
 -- ---- numbers that integers hold
 
@@ -241,33 +233,38 @@ each-held : (xs ys : List Message) → ((order : List ℕ) → StaysHeld order x
 each-held xs ys same [] held = tt
 each-held xs ys same (o ∷ os) held = (same o.order held.0, each-held xs ys same os held.1)
 
-own-held : (all : List SaidToClient) (c : ℕ) (os : List OpenedOrder)
-    → StayRead all (map unread_order (orders_of c os)) → AreHeld (sent_to c all) (orders_of c os)
+own-held : (all : List SaidToClient) (c : ℕ) (os : List OpenedOrder) → StayHeld all (orders_of c os)
+    → AreHeld (sent_to c all) (orders_of c os)
 own-held all c [] held = tt
 own-held all c (o ∷ os) held = by_test (o.client == c) refl (own-held all c os) held
   where
     by_test : (b : Bool) → (o.client == c) ≡ b
-        → (StayRead all (map unread_order (orders_of c os)) → AreHeld (sent_to c all) (orders_of c os))
-        → StayRead all (map unread_order (if b then o ∷ orders_of c os else orders_of c os))
+        → (StayHeld all (orders_of c os) → AreHeld (sent_to c all) (orders_of c os))
+        → StayHeld all (if b then o ∷ orders_of c os else orders_of c os)
         → AreHeld (sent_to c all) (if b then o ∷ orders_of c os else orders_of c os)
     by_test true is rest held =
         (subst (λ (k : ℕ). StaysHeld o.order (sent_to k all)) (eqb-true o.client c is) held.0, rest held.1)
     by_test false is rest held = rest held
 
 held-own : (all : List SaidToClient) (c : ℕ) (os : List OpenedOrder)
-    → AreHeld (sent_to c all) (orders_of c os) → StayRead all (map unread_order (orders_of c os))
+    → AreHeld (sent_to c all) (orders_of c os) → StayHeld all (orders_of c os)
 held-own all c [] held = tt
 held-own all c (o ∷ os) held = by_test (o.client == c) refl (held-own all c os) held
   where
     by_test : (b : Bool) → (o.client == c) ≡ b
-        → (AreHeld (sent_to c all) (orders_of c os) → StayRead all (map unread_order (orders_of c os)))
+        → (AreHeld (sent_to c all) (orders_of c os) → StayHeld all (orders_of c os))
         → AreHeld (sent_to c all) (if b then o ∷ orders_of c os else orders_of c os)
-        → StayRead all (map unread_order (if b then o ∷ orders_of c os else orders_of c os))
+        → StayHeld all (if b then o ∷ orders_of c os else orders_of c os)
     by_test true is rest held =
         (subst (λ (k : ℕ). StaysHeld o.order (sent_to k all)) (sym (eqb-true o.client c is)) held.0, rest held.1)
     by_test false is rest held = rest held
 
-pub all-held : (s : Settings) (h : History) → StayRead (told_whole h) (orders_opened s h) → AllHeld s h
+-- what was read of the orders of each client stays within integers
+abbrev pub AllStayHeld : Settings → History → Type 0
+AllStayHeld s h = (c : ℕ) → 1 ≤ c → c ≤ length s.clients
+    → StayHeld (told_whole h) (orders_of c (reverse (opened_orders (told_whole h))))
+
+pub all-held : (s : Settings) (h : History) → AllStayHeld s h → AllHeld s h
 all-held s h held c some known =
     let all = told_whole h in
     let O = reverse (opened_orders all) in
@@ -275,50 +272,28 @@ all-held s h held c some known =
     (sym (sent-whole c h))
     (subst (AreHeld (map body_of (sent_to c all))) (sym (orders-whole h c))
     (each-held (sent_to c all) (map body_of (sent_to c all)) (λ order. stays-bodily order (sent_to c all))
-    (orders_of c O) (own-held all c O
-    (each-of-for (λ (o : ReadOrder). StaysHeld o.order (sent_to o.client all))
-    (λ k. map unread_order (orders_of k O)) (length s.clients) held c some known))))
+    (orders_of c O) (own-held all c O (held c some known))))
 
-pub held-all : (s : Settings) (h : History) → AllHeld s h → StayRead (told_whole h) (orders_opened s h)
-held-all s h held =
+pub held-all : (s : Settings) (h : History) → AllHeld s h → AllStayHeld s h
+held-all s h held c some known =
     let all = told_whole h in
     let O = reverse (opened_orders all) in
-    each-for (λ (o : ReadOrder). StaysHeld o.order (sent_to o.client all))
-    (λ k. map unread_order (orders_of k O)) (length s.clients)
-    (λ c some known. held-own all c O
+    held-own all c O
     (each-held (map body_of (sent_to c all)) (sent_to c all) (λ order. stays-whole order (sent_to c all))
     (orders_of c O)
     (subst (AreHeld (map body_of (sent_to c all))) (orders-whole h c)
     (subst (λ (sent : List Message). AreHeld sent (reverse (orders_of c (opened_orders (said_to_clients h)))))
-    (sent-whole c h) (held c some known)))))
+    (sent-whole c h) (held c some known))))
 
--- ---- of orders that were opened nothing was read at first
+-- ---- what the code has
 
-unread-same : (os : List OpenedOrder) → map (read_as []) (map unread_order os) ≡ map unread_order os
-unread-same [] = refl
-unread-same (o ∷ os) = ap (λ (xs : List ReadOrder). unread_order o ∷ xs) (unread-same os)
-
-for-unread : (os : List OpenedOrder) (n : ℕ)
-    → for_clients (λ c. map unread_order (orders_of c os)) n
-    ≡ map (read_as []) (for_clients (λ c. map unread_order (orders_of c os)) n)
-for-unread os n =
-    for-same (λ c. map unread_order (orders_of c os)) (λ c. map (read_as []) (map unread_order (orders_of c os)))
-    (λ c. sym (unread-same (orders_of c os))) n
-    ∙ sym (map-for (read_as []) (λ c. map unread_order (orders_of c os)) n)
-
-pub opened-unread : (s : Settings) (h : History) (orders : List ReadOrder) → orders ≡ orders_opened s h
-    → AreRead (orders_opened s h) [] orders
-opened-unread s h orders are = record {
-  read = are ∙ for-unread (reverse (opened_orders (told_whole h))) (length s.clients);
-  held = nothing-read (orders_opened s h);
-}
-
-pub orders-are : (s : Settings) (h : History) (os : List OpenedOrder) (n : ℕ) (orders : List ReadOrder)
+pub fix-are : (s : Settings) (h : History) (os : List OpenedOrder) (n : ℕ) (accounts : List Account)
     → os ≡ reverse (opened_orders (told_whole h)) → n ≡ length s.clients
-    → orders ≡ for_clients (λ c. map unread_order (orders_of c os)) n → orders ≡ orders_opened s h
-orders-are s h os n orders are_openings is_many is =
-    is ∙ (ap (λ (xs : List OpenedOrder). for_clients (λ c. map unread_order (orders_of c xs)) n) are_openings
-    ∙ ap (for_clients (λ c. map unread_order (orders_of c (reverse (opened_orders (told_whole h)))))) is_many)
+    → accounts ≡ for_clients (λ c. map (fix_in (told_whole h)) (orders_of c os)) n → accounts ≡ fix_opened s h
+fix-are s h os n accounts are_openings is_many is =
+    is ∙ (ap (λ (xs : List OpenedOrder). for_clients (λ c. map (fix_in (told_whole h)) (orders_of c xs)) n) are_openings
+    ∙ ap (for_clients (λ c. map (fix_in (told_whole h)) (orders_of c (reverse (opened_orders (told_whole h))))))
+    is_many)
 
 pub said-are : (s : Settings) (h : History) (os : List OpenedOrder) (said : List Account)
     → os ≡ reverse (opened_orders (told_whole h))
@@ -328,9 +303,19 @@ said-are s h os said are_openings is =
     is ∙ ap (λ (xs : List OpenedOrder). for_clients (λ c. map (said_of (handled_for s h c)) (orders_of c xs))
     (length s.clients)) are_openings
 
-pub as-many : (s : Settings) (h : History) (now : List ReadOrder) (said : List Account)
-    → now ≡ map (read_as (told_whole h)) (orders_opened s h) → said ≡ said_opened s h → length now ≡ length said
-as-many s h now said are_read are_said =
-    ap (λ (xs : List ReadOrder). length xs) are_read
-    ∙ (length-map (orders_opened s h) (read_as (told_whole h))
-    ∙ (same-many s h ∙ sym (ap (λ (xs : List Account). length xs) are_said)))
+-- of the orders that the code has
+pub held-are : (s : Settings) (h : History) (os : List OpenedOrder) (n : ℕ)
+    → os ≡ reverse (opened_orders (told_whole h)) → n ≡ length s.clients
+    → ((c : ℕ) → 1 ≤ c → c ≤ n → StayHeld (told_whole h) (orders_of c os)) → AllStayHeld s h
+held-are s h os n are_openings is_many held =
+    subst (λ (xs : List OpenedOrder). (c : ℕ) → 1 ≤ c → c ≤ length s.clients
+    → StayHeld (told_whole h) (orders_of c xs)) are_openings
+    (subst (λ (k : ℕ). (c : ℕ) → 1 ≤ c → c ≤ k → StayHeld (told_whole h) (orders_of c os)) is_many held)
+
+pub are-held : (s : Settings) (h : History) (os : List OpenedOrder) (n : ℕ)
+    → os ≡ reverse (opened_orders (told_whole h)) → n ≡ length s.clients → AllStayHeld s h
+    → (c : ℕ) → 1 ≤ c → c ≤ n → StayHeld (told_whole h) (orders_of c os)
+are-held s h os n are_openings is_many held =
+    subst (λ (k : ℕ). (c : ℕ) → 1 ≤ c → c ≤ k → StayHeld (told_whole h) (orders_of c os)) (sym is_many)
+    (subst (λ (xs : List OpenedOrder). (c : ℕ) → 1 ≤ c → c ≤ length s.clients
+    → StayHeld (told_whole h) (orders_of c xs)) (sym are_openings) held)

@@ -1,7 +1,7 @@
 -- A session that the code calls once more is the one that is read.
-use Rattle.std.specs.Prelude.{◌≡◌, ◌≤◌, ◌+◌, ◌^◌, ℕ, nat_lt, List, [], ◌∷◌, length, reverse, if◌then◌else◌}
+use Rattle.std.specs.Prelude.{◌≡◌, ◌+◌, ◌^◌, ℕ, nat_lt, List, [], ◌∷◌, length, reverse, if◌then◌else◌}
 use Rattle.gate_core.specs.soup_session.Table.{LoginTerms}
-use Rattle.gate_core.specs.soup_session.Calls.{CallsLeave, next_of}
+use Rattle.gate_core.specs.soup_session.Calls.{CallsLeave}
 use Rattle.gate_law.specs.Events.{History, Turn}
 use Rattle.gate_law.specs.Settings.{Settings, port_terms}
 use Rattle.order_accounts.specs.ouch_codec.declared.outbound.Outbound.{Outbound}
@@ -24,11 +24,6 @@ pub record IsHandled (terms : LoginTerms) (port : ℕ) (h : History) (x : Handle
   pub own : x.port ≡ port
   pub again : IsAgain terms (called_again terms port h) x.again
   pub stepped : x.stepped ≡ stepped_of h
-
--- sequence numbers stay far below the most that there are
-pub record HasRoom (x : HandledSoFar) : Type 0 where
-  pub few : x.stepped ≤ 2 ^ 48
-  pub next : next_of x.again.session.port ≤ x.stepped + 1
 
 -- the messages that a port's session delivered
 abbrev pub heard_on : HandledSoFar → List Outbound

@@ -5,7 +5,8 @@ pub mod Pairs
 pub mod Counted
 pub mod Passes
 pub mod Accepted
-pub mod FirstPass
+pub mod Kept
+pub mod Auditing
 pub mod Played
 pub use Rattle.gate_law.specs.fix_fields.Field
 pub use Rattle.gate_events.specs.Seen

@@ -5,7 +5,7 @@ use Rattle.gate_law.specs.Events.{Batch, History}
 use Rattle.order_law.specs.declared.account.Account.{Account}
 use Rattle.order_law.specs.Headline.{Each}
 use Rattle.order_law.specs.Life.{account_of, life}
-use Rattle.order_law.specs.Reading.{account_read, reading, unread}
+use Rattle.order_law.specs.Reading.{account_read, reading}
 use Rattle.order_accounts.specs.Held.{IsHeld, StaysHeld, heard_on}
 use Rattle.order_accounts.specs.ouch_codec.declared.outbound.Outbound.{Outbound}
 use Rattle.gate_audit.specs.Pairs.{OpenedOrder, Pair, SaidToClient, paired, told_anyone}
@@ -29,10 +29,6 @@ sent_to client (x ∷ earlier) = if x.client == client then x.report ∷ sent_to
 
 abbrev pub order_id : ReadOrder → List ℕ
 order_id o = o.order
-
--- an order of which nothing was read
-abbrev pub unread_order : OpenedOrder → ReadOrder
-unread_order o = record { client = o.client; order = o.order; id = o.id; reading = unread }
 
 -- one report more to a client makes of an order what it makes of the client's own
 abbrev pub hears : ℕ → Message → ReadOrder → ReadOrder
@@ -72,8 +68,17 @@ changed_at f (k ∷ ks) xs = changed_at f ks (changed f k xs)
 abbrev pub said_of : List Outbound → OpenedOrder → Account
 said_of handled o = account_of (life o.root o.side handled)
 
--- readings, each with its order's other account
-abbrev pub pairs_with : List ReadOrder → List Account → List Pair
-pairs_with [] said = []
-pairs_with (o ∷ os) [] = []
-pairs_with (o ∷ os) (x ∷ said) = paired o.client o.id (account_read o.reading) x ∷ pairs_with os said
+-- what its client read of an order
+abbrev pub fix_in : List SaidToClient → OpenedOrder → Account
+fix_in all o = account_read (reading o.order (sent_to o.client all))
+
+-- what was read of these orders stays within integers
+abbrev pub StayHeld : List SaidToClient → List OpenedOrder → Type 0
+StayHeld all os = Each (λ (o : OpenedOrder). StaysHeld o.order (sent_to o.client all)) os
+
+-- orders, each with the next of both accounts, as long as there are any
+abbrev pub pairs_with : List OpenedOrder → List Account → List Account → List Pair
+pairs_with [] fix said = []
+pairs_with (o ∷ os) [] said = []
+pairs_with (o ∷ os) (x ∷ fix) [] = []
+pairs_with (o ∷ os) (x ∷ fix) (y ∷ said) = paired o.client o.id x y ∷ pairs_with os fix said

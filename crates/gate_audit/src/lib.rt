@@ -9,21 +9,29 @@
 
 mod accepted;
 mod accounts;
-mod first_pass;
+mod day_audit;
+mod fix_accounts;
+mod growing;
+mod kept_reading;
+mod kept_readings;
 mod lives;
 mod messages;
 mod opening;
 mod openings;
+mod order_key;
 mod order_pair;
 mod order_reading;
 mod order_readings;
+mod paired;
 mod pairs;
 mod played;
 mod port_again;
 mod reports;
+mod told;
 
 pub use accounts::readings;
 pub use closed_world::{BookRow, Choice, WorldStep};
+pub use day_audit::DayAudit;
 pub use gate_core::Settings;
 pub use gate_events::PortNumber;
 pub use gate_journal::History;

@@ -1,6 +1,6 @@
 //! The market's messages on a port that a run handled.
 
-ghost use Rattle.std.specs.Prelude.{◌≡◌, ◌≤◌, ◌∷◌, [], ℕ, IfOk, length, reverse};
+ghost use Rattle.std.specs.Prelude.{◌≡◌, ◌≤◌, ◌+◌, ◌^◌, ◌∷◌, [], ℕ, IfOk, length, reverse};
 ghost use Rattle.order_law.specs.History as orders;
 ghost use Rattle.gate_law.specs.Settings.{port_terms};
 ghost use Rattle.gate_law.specs.After.{order_turns};
@@ -8,10 +8,10 @@ ghost use Rattle.gate_law.specs.Holds.{Holds};
 ghost use Rattle.gate_law.specs.Events as law;
 ghost use Rattle.gate_core.specs.gate_settings.Kept.{CanLogIn};
 ghost use Rattle.gate_core.specs.soup_session.Table.{LoginTerms};
+ghost use Rattle.gate_core.specs.soup_session.Calls.{next_of};
 ghost use Rattle.gate_events.specs.Seen.{batch_seen};
 ghost use Rattle.gate_journal.specs.Kept.{kept_turn, turns};
 ghost use Rattle.gate_audit.specs.Again.{called_again};
-ghost use Rattle.gate_audit.specs.Called.{HasRoom, IsHandled, heard_on};
 
 use crate::port_again::PortAgain;
 use gate_core::{Batch, Event, PortNumber, PortSettings, Settings};
@@ -51,21 +51,25 @@ pub fn handled_messages(
     Ok(so_far.again.handled)
 }
 
-/// What a port's session delivered in the turns so far, when it is called once more with them.
+/// What a port's session delivered in the turns so far, when it is called once more with them. Sequence numbers stay
+/// far below the most that there are.
 #[derive(Drop)]
 pub struct HandledSoFar {
     port: PortNumber,
     again: PortAgain,
     /// How many turns were stepped.
     stepped: u64,
+    ghost few_stepped: { stepped ≤ 2 ^ 48 },
+    ghost few_delivered: { next_of again.session.port ≤ stepped + 1 },
 }
 
 impl HandledSoFar {
+    ghost use Rattle.gate_audit.specs.Called.{IsHandled, heard_on};
+
     /// Before any turn of the port of this number.
     pub fn new(alloc: Global, settings: &PortSettings, port: PortNumber) -> HandledSoFar
         requires { CanLogIn settings.now }
-        ensures handled { IsHandled settings.now port [] result }
-        ensures room { HasRoom result }
+        ensures { IsHandled settings.now port [] result }
     {
         HandledSoFar {
             port,
@@ -76,15 +80,13 @@ impl HandledSoFar {
 
     /// One turn more.
     pub fn take(&mut self, alloc: Global, event: &Event, batch: &Batch) -> Result<(), AllocError>
-        requires { HasRoom self.old }
-        ensures room { IfOk result (λ u. HasRoom self.new) }
-        ensures handled { IfOk result (λ u. (terms : LoginTerms) (p : ℕ) (h : law.History)
+        ensures { IfOk result (λ u. (terms : LoginTerms) (p : ℕ) (h : law.History)
             → IsHandled terms p h self.old
             → IsHandled terms p (kept_turn event.now (batch_seen batch.now) ∷ h) self.new) }
     {
         if self.stepped < MOST_EVENTS {
-            self.again.step(alloc, self.port, event, batch)?;
             self.stepped += 1;
+            self.again.step(alloc, self.port, event, batch)?;
         }
         Ok(())
     }

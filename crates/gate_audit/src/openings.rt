@@ -11,6 +11,7 @@ ghost use Rattle.gate_audit.specs.Pairs as read;
 ghost use Rattle.gate_audit.specs.Pairs.{SaidToClient, said_to};
 ghost use Rattle.gate_audit.specs.Passes.{told_more, told_whole};
 
+use crate::growing::push_slowly;
 use crate::opening::Opening;
 use crate::reports::{first_byte, gives_token, opens_order, text};
 use gate_core::{Batch, IssuedReport};
@@ -72,7 +73,7 @@ impl Openings {
     }
 
     /// One report or reject more.
-    fn hear(&mut self, alloc: Global, client: u16, report: &Fields) -> Result<(), ReadingFault>
+    pub fn hear(&mut self, alloc: Global, client: u16, report: &Fields) -> Result<(), ReadingFault>
         ensures all { IfOk result (λ u. (all : List SaidToClient) → IsOf all self.old
             → IsOf (said_to client report.now ∷ all) self.new) }
         ensures large { (all : List SaidToClient) → IsOf all self.old → IsErrOf result ReadingFault.TooLarge
@@ -82,8 +83,8 @@ impl Openings {
             self.given = next_token(self.given)?;
         }
         if opens_order(report) {
-            self.orders
-                .push(opened(alloc, self.given, client, report)?)?;
+            let order = opened(alloc, self.given, client, report)?;
+            push_slowly(&mut self.orders, order)?;
         }
         Ok(())
     }

@@ -10,6 +10,7 @@ ghost use Rattle.gate_audit.specs.Again as read;
 ghost use Rattle.gate_audit.specs.Again.{Again};
 ghost use Rattle.gate_audit.specs.Called.{IsAgain};
 
+use crate::growing::push_slowly;
 use gate_core::{Batch, Event, PortFault, PortNumber, PortSession, PortSettings};
 use gate_events::closes_link;
 use order_accounts::{Outbound, decode};
@@ -158,12 +159,12 @@ impl PortAgain {
     }
 }
 
-/// Adds a message, where there is one. One growth at most.
+/// Adds a message, where there is one. One growth at most, by little.
 fn push_message(handled: &mut Vec<Outbound>, message: Option<Outbound>) -> Result<(), AllocError>
     ensures { IfOk result (λ u. handled.new.items ≡ handled.old.items ++ option_to_list message) }
 {
     if let Some(message) = message {
-        handled.push(message)?;
+        push_slowly(handled, message)?;
     }
     Ok(())
 }

@@ -18,7 +18,7 @@ returns-clause-run c holds =
     let none : (events_left c.loop-so_far.ahead ≡ []) × (batches_left c.loop-so_far.ahead ≡ []) =
     search (rules, c.in_ok-event.ensures, c.in_default.is) in
     (in-the-end (events_left c.loop-so_far.ahead) (batches_left c.loop-so_far.ahead) c.args.history.now
-    (λ seen. IsHandled (port_terms s p) p seen c.loop-so_far.so_far) none.0 c.loop-so_far.invariant.handled).again.handled
+    (λ seen. IsHandled (port_terms s p) p seen c.loop-so_far.so_far) none.0 c.loop-so_far.invariant).again.handled
     ∙ ap reverse (sym (handled-again ends_by_close s p
     (has-of p (length s.ports) (omega (arith, c.number.ensures.value, c.number.ensures.from_one)) c.requires.known)
     h holds.run))

@@ -7,8 +7,8 @@ use Rattle.gate_audit.specs.Called.{IsAgain, stepped_of}
 use Rattle.gate_audit.proofs.Calling.{again-more, stepped-few, stepped-next}
 use Rattle.gate_audit.proofs.messages.HandledSoFar.take.Goals as goal
 
-pub returns-in_ok-step-clause-handled : goal.returns-in_ok-step-clause-handled
-returns-in_ok-step-clause-handled c = λ terms p h is.
+pub returns-in_ok-step : goal.returns-in_ok-step
+returns-in_ok-step c = λ terms p h is.
     let e = c.args.event.now in
     let b = c.args.batch.now in
     let t : Turn = kept_turn e (batch_seen b) in

@@ -5,14 +5,11 @@ use Rattle.gate_law.specs.Settings.{port_terms}
 use Rattle.gate_events.specs.Seen.{batch_seen}
 use Rattle.gate_journal.specs.Kept.{kept_turn}
 use Rattle.gate_audit.specs.declared.messages.HandledSoFar.{HandledSoFar}
-use Rattle.gate_audit.specs.Called.{HasRoom}
 use Rattle.gate_audit.proofs.Ports.{stepped-at, stepped-first, stepped-last, stepped-set}
-use Rattle.gate_audit.proofs.Rereading.{each-set}
-use Rattle.gate_audit.proofs.first_pass.take_each.Goals as goal
+use Rattle.gate_audit.proofs.day_audit.take_each.Goals as goal
 
 pub loop-i-init : goal.loop-i-init
 loop-i-init c = record {
-  room = c.requires;
   many = refl;
   handled = λ s h is. stepped-first s (kept_turn c.args.event.now (batch_seen c.args.batch.now)) h 0
       c.args.ports.now.items is;
@@ -29,10 +26,9 @@ loop-i-preserved c =
     let within : i < length now =
     omega (arith, c.loop-i-test.true, c.loop-i.auto.i-end, c.len-i-end.ensures, c.loop-i.invariant.many) in
     record {
-      room = each-set HasRoom now i y c.loop-i.invariant.room c.in_ok-take.ensures.room;
       many = length-set now i y ∙ c.loop-i.invariant.many;
       handled = λ s h is. stepped-set s t h i 0 now i y (omega arith)
-          (c.in_ok-take.ensures.handled (port_terms s (i + 1)) (i + 1) h
+          (c.in_ok-take.ensures (port_terms s (i + 1)) (i + 1) h
           (stepped-at s t h i 0 now i x (omega arith) within there (c.loop-i.invariant.handled s h is)))
           (c.loop-i.invariant.handled s h is);
     }

@@ -1,13 +1,11 @@
 use Rattle.std.proofs.Common.{◌≡◌, ◌∙◌, ◌<◌, ◌+◌, ◌∷◌, [], ℕ, List, ap, get_or, length, sym, subst, arith}
 use Rattle.std.proofs.lemmas.List.{get_or_default, length-append}
 use Rattle.gate_core.specs.soup_session.Table.{LoginTerms}
-use Rattle.order_law.specs.Headline.{Each}
 use Rattle.gate_law.specs.Settings.{Settings, port_terms}
 use Rattle.gate_audit.specs.declared.messages.HandledSoFar.{HandledSoFar}
-use Rattle.gate_audit.specs.Called.{AreHandled, HasRoom, IsHandled}
+use Rattle.gate_audit.specs.Called.{AreHandled, IsHandled}
 use Rattle.gate_audit.proofs.Ports.{handled-push}
-use Rattle.gate_audit.proofs.Shelved.{each-append}
-use Rattle.gate_audit.proofs.first_pass.ports_of.Goals as goal
+use Rattle.gate_audit.proofs.day_audit.ports_of.Goals as goal
 
 pub loop-place-preserved : goal.loop-place-preserved
 loop-place-preserved c =
@@ -29,7 +27,7 @@ loop-place-preserved c =
     ∙ ap (λ (i : ℕ). get_or s.ports i none) (omega arith))) in
     let own : IsHandled (port_terms s (n + 1)) (n + 1) [] y =
     subst (λ (p : ℕ). IsHandled (port_terms s (n + 1)) p [] y) c.at_place.ensures
-    (subst (λ (t : LoginTerms). IsHandled t c.at_place.result [] y) terms c.new.ensures.handled) in
+    (subst (λ (t : LoginTerms). IsHandled t c.at_place.result [] y) terms c.new.ensures) in
     let more = length-append xs (y ∷ []) in
     record {
       handled = subst (AreHandled s [] 0) (sym c.in_ok-push.ensures.items)
@@ -37,6 +35,4 @@ loop-place-preserved c =
           own);
       many = ap (λ (ps : List HandledSoFar). length ps) c.in_ok-push.ensures.items
           ∙ omega (arith, more, c.loop-place.invariant.many);
-      room = subst (Each HasRoom) (sym c.in_ok-push.ensures.items)
-          (each-append HasRoom xs (y ∷ []) c.loop-place.invariant.room (c.new.ensures.room, tt));
     }

@@ -1,12 +1,10 @@
 -- The ports so far.
 use Rattle.std.proofs.Common.{◌≡◌, [], length}
-use Rattle.order_law.specs.Headline.{Each}
-use Rattle.gate_audit.specs.Called.{AreHandled, HasRoom}
-use Rattle.gate_audit.proofs.first_pass.ports_of.Given as goal
+use Rattle.gate_audit.specs.Called.{AreHandled}
+use Rattle.gate_audit.proofs.day_audit.ports_of.Given as goal
 
 abbrev pub invariant-loop-place : goal.invariant-loop-place
 invariant-loop-place l = record {
   handled : AreHandled l.settings [] 0 l.ports.items;
   many : length l.ports.items ≡ l.place;
-  room : Each HasRoom l.ports.items;
 }
