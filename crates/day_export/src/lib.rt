@@ -9,6 +9,7 @@
 
 mod cells;
 mod day;
+mod fault;
 mod fields;
 mod format;
 mod market;
@@ -16,5 +17,6 @@ mod row;
 mod turn;
 mod writing;
 
-pub use day::export_day;
+pub use day::export_file;
+pub use fault::ExportFault;
 pub use format::{Format, format_of};

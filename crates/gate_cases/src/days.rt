@@ -103,10 +103,10 @@ fn change_byte(file: &mut Vec<u8>, asked: &str) {
 /// Audits a file of a day of the fixed settings.
 fn audit(alloc: Global, day: Day, file: &[u8], shown: &mut Vec<u8>) -> Result<(), AllocError> {
     let settings = fixed_settings(alloc)?;
-    let mut told = Vec::new(alloc);
+    let (mut input, mut told) = (file, Vec::new(alloc));
     let status = match day {
-        Day::IsOver => audit_file(alloc, file, &settings, shown, &mut told),
-        Day::GoesOn => audit_so_far(alloc, file, &settings, shown, &mut told),
+        Day::IsOver => audit_file(alloc, &mut input, &settings, shown, &mut told),
+        Day::GoesOn => audit_so_far(alloc, &mut input, &settings, shown, &mut told),
     };
     add_end(shown, told.as_slice(), status)
 }

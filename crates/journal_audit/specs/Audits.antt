@@ -3,6 +3,8 @@ use Rattle.std.specs.Prelude.{◌≡◌, ◌⊎◌, ℕ, List, Option}
 use Rattle.std.specs.Io.KnownBytes.{Appends}
 use Rattle.gate_lines.specs.gate_law.Settings.{Settings}
 use Rattle.gate_lines.specs.gate_law.Holds.{Holds}
+use Rattle.gate_audit.specs.declared.day_audit.DayAudit.{DayAudit}
+use Rattle.gate_audit.specs.Auditing.{IsAuditing}
 use Rattle.gate_audit.specs.Pairs.{accepted_pairs, pairs}
 use Rattle.gate_lines.specs.audit_lines.Lines.{shown_audit}
 use Rattle.gate_lines.specs.Scripts.{ComesTo}
@@ -11,8 +13,12 @@ use Rattle.journal_file.specs.declared.ending.Ending.{Ending}
 use Rattle.journal_file.specs.declared.ending.Ending.TheVariants.{Over}
 use Rattle.journal_file.specs.declared.fault.FileFault.{FileFault}
 use Rattle.gate_audit.specs.gate_journal.Kept.{Kept, turns}
+use Rattle.journal_file.specs.declared.read_fault.ReadFault.TheVariants.{NoFile, NoMemory, Read}
+use Rattle.journal_file.specs.Inputs.{IsJudged}
 use Rattle.journal_file.specs.Said.{IsNoFile, Says}
 use Rattle.journal_file.specs.Written.{IsFileOfTurns}
+use Rattle.journal_audit.specs.declared.read_day.Unread.{Unread}
+use Rattle.journal_audit.specs.declared.read_day.Unread.TheVariants.{Account, File}
 
 -- The file is of a day that is over; what a writer has grew by just the audit of what it says, and where all that is
 -- promised of a run holds of it, by the accounts of the orders that were accepted.
@@ -52,3 +58,25 @@ IsNotOver file = IsNoDaysFile file ⊎ GoesOnStill file
 abbrev pub IsDayOfScript : List ℕ → Option (List ℕ) → Option (List ℕ) → Type 0
 IsDayOfScript text old new =
     (kept : Kept) × ComesTo text kept × Holds fixed (turns kept) × IsFileOfTurns (turns kept) old new
+
+-- ---- files that are read
+
+-- the audit of what a file says, and how the file ends
+pub record Audits (s : Settings) (file : List ℕ) (audit : DayAudit) (ending : Ending) : Type 0 where
+  pub day : Kept
+  pub says : Says file day ending
+  pub is : IsAuditing s (turns day) audit
+
+-- why a file wasn't read to its end: it is none, by this page, or else nothing is said of it
+abbrev pub IsUnread : Option (List ℕ) → Option (List ℕ) → Unread → Type 0
+IsUnread known later (File (NoFile n fault)) = IsJudged known later (λ file. IsNoFile file n fault)
+IsUnread known later (File NoMemory) = Unit {0}
+IsUnread known later (File (Read error)) = Unit {0}
+IsUnread known later (Account fault) = Unit {0}
+
+-- a page is named
+abbrev pub NamesAPage : Unread → Type 0
+NamesAPage (File (NoFile n fault)) = Unit {0}
+NamesAPage (File NoMemory) = ⊥
+NamesAPage (File (Read error)) = ⊥
+NamesAPage (Account fault) = ⊥

@@ -1,48 +1,54 @@
 //! The audit of a day's file.
 
-ghost use Rattle.std.specs.Prelude.{◌≡◌, ◌≤◌};
+ghost use Rattle.std.specs.Prelude.{◌≡◌, ◌≤◌, IfSome};
 ghost use Rattle.std.specs.Io.KnownBytes.{Appends, Keeps};
+ghost use Rattle.gate_lines.specs.gate_law.Events.{History};
 ghost use Rattle.gate_lines.specs.gate_law.Holds.{Holds};
+ghost use Rattle.gate_audit.specs.Auditing.{IsAuditing};
 ghost use Rattle.gate_audit.specs.Pairs.{accepted_pairs, pairs};
 ghost use Rattle.gate_lines.specs.audit_lines.Lines.{shown_audit};
 ghost use Rattle.journal_file.specs.declared.ending.Ending.TheVariants.{Over};
-ghost use Rattle.journal_file.specs.declared.fault.FileFault.TheVariants.{Page};
-ghost use Rattle.journal_file.specs.journal_pages.declared.fault.PageFault.TheVariants.{NoMemory};
-ghost use Rattle.gate_audit.specs.gate_journal.Kept.{turns};
-ghost use Rattle.journal_audit.specs.Audits.{IsAuditOfFile, IsNotOver};
+ghost use Rattle.journal_audit.specs.Audits.{IsAuditOfFile, IsNotOver, NamesAPage};
+ghost use Rattle.journal_file.specs.Inputs.{IsJudged, IsReadTo};
 
-use gate_audit::{History, ReadingFault, Settings, audit};
+use crate::read_day::{ReadDay, Unread, read_day};
+use gate_audit::{DayAudit, ReadingFault, Settings};
 use gate_lines::write_audit;
-use journal_file::{DayFile, Ending, FileFault, PageFault, read_file};
+use journal_file::{Ending, ReadFault};
 use std::alloc::Global;
-use std::io::Write;
+use std::io::{Read, Write};
 
-/// Reads the file of a day that is over, and writes the audit of its history to `output`: a line for each order that
-/// was accepted, and one for how many there are and how many agree.
+/// Reads the file of a day that is over, page by page, and writes the audit of its history to `output`: a line for each
+/// order that was accepted, and one for how many there are and how many agree. What an audit keeps is in memory, and of
+/// the file the pages of a few turns (`DayReader`).
 ///
 /// Answers the status that a program ends with which does so: 0 where both accounts of each order agree; 2 where the
 /// file is none, with `page N: FAULT` on `faults`, the number from 0 and the fault as `FileFault` has it, and where
 /// its day goes on, with `the day goes on: ` and how its file ends; in both cases nothing is written to `output`;
-/// else 1: where those of an order don't agree, where memory runs out, with `out of memory`, where a write fails,
-/// with `read or write failed`, and where a number of an account is larger than its integer holds, with `an order's
-/// account is too large`.
+/// else 1: where those of an order don't agree, where memory runs out, with `out of memory`, where a read or a write
+/// fails, with `read or write failed`, and where a number of an account is larger than its integer holds, with `an
+/// order's account is too large`.
 ///
 /// Source: FIX 4.4 Volume 4, "Execution Report"; OUCH 4.2, "Outbound Messages".
-pub fn audit_file<W: Write, F: Write>(
+pub fn audit_file<R: Read, W: Write, F: Write>(
     alloc: Global,
-    file: &[u8],
+    input: &mut R,
     settings: &Settings,
     output: &mut W,
     faults: &mut F,
 ) -> u8
     ensures status { result ≤ 2 }
-    ensures audited { result ≡ 0
-        → IsAuditOfFile settings.now file.now (W.contents output.old) (W.contents output.new) }
-    ensures refused { result ≡ 2 → IsNotOver file.now × Keeps (W.contents output.old) (W.contents output.new) }
+    ensures audited { result ≡ 0 → IsReadTo (R.remaining input.old) (R.remaining input.new)
+        (λ file. IsAuditOfFile settings.now file (W.contents output.old) (W.contents output.new)) }
+    ensures refused { result ≡ 2 → IsJudged (R.remaining input.old) (R.remaining input.new) IsNotOver
+        × Keeps (W.contents output.old) (W.contents output.new) }
+    ensures all_audited { result ≡ 0 → IfSome (R.remaining input.old)
+        (λ file. IsAuditOfFile settings.now file (W.contents output.old) (W.contents output.new)) }
+    ensures all_refused { result ≡ 2 → IfSome (R.remaining input.old) IsNotOver }
 {
-    match read_file(alloc, file) {
-        Ok(read) => audit_read(alloc, &read, settings, output, faults),
-        Err((number, fault)) => tell_refusal(number, fault, faults),
+    match read_day(alloc, input, settings) {
+        Ok(read) => audit_read(alloc, read, settings, output, faults),
+        Err(why) => tell_unread(&why, faults),
     }
 }
 
@@ -61,53 +67,52 @@ pub(crate) fn tell_ending<F: Write>(ending: Ending, faults: &mut F) {
 /// Writes the audit of a file that was read, where its day is over.
 fn audit_read<W: Write, F: Write>(
     alloc: Global,
-    read: &DayFile,
+    read: ReadDay,
     settings: &Settings,
     output: &mut W,
     faults: &mut F,
 ) -> u8
     ensures status { result ≤ 2 }
-    ensures over { result ≡ 0 → read.now.ending ≡ Over }
-    ensures written { result ≡ 0 → Appends (W.contents output.old) (W.contents output.new)
-        (shown_audit (pairs settings.now (turns read.now.day))) }
-    ensures run { Holds settings.now (turns read.now.day) → result ≡ 0
-        → Appends (W.contents output.old) (W.contents output.new)
-        (shown_audit (accepted_pairs settings.now (turns read.now.day))) }
-    ensures refused { result ≡ 2 → read.now.ending ≡ Over → ⊥ }
+    ensures over { result ≡ 0 → read.ending ≡ Over }
+    ensures written { result ≡ 0 → (h : History) → IsAuditing settings.now h read.audit
+        → Appends (W.contents output.old) (W.contents output.new) (shown_audit (pairs settings.now h)) }
+    ensures run { result ≡ 0 → (h : History) → IsAuditing settings.now h read.audit → Holds settings.now h
+        → Appends (W.contents output.old) (W.contents output.new) (shown_audit (accepted_pairs settings.now h)) }
+    ensures refused { result ≡ 2 → read.ending ≡ Over → ⊥ }
     ensures untold { result ≡ 2 → Keeps (W.contents output.old) (W.contents output.new) }
 {
-    match read.ending {
-        Ending::Over => write_day_audit(alloc, &read.day, settings, output, faults),
+    let ReadDay { audit, ending } = read;
+    match ending {
+        Ending::Over => write_day_audit(alloc, audit, settings, output, faults),
         Ending::GoesOn | Ending::Torn(_) => {
-            tell_ending(read.ending, faults);
+            tell_ending(ending, faults);
             2
         }
     }
 }
 
-/// Writes the audit of a history over pages.
+/// Writes what an audit comes to.
 pub(crate) fn write_day_audit<W: Write, F: Write>(
     alloc: Global,
-    day: &History,
+    audit: DayAudit,
     settings: &Settings,
     output: &mut W,
     faults: &mut F,
 ) -> u8
     ensures status { result ≤ 1 }
-    ensures written { result ≡ 0 → Appends (W.contents output.old) (W.contents output.new)
-        (shown_audit (pairs settings.now (turns day.now))) }
-    ensures run { Holds settings.now (turns day.now) → result ≡ 0
-        → Appends (W.contents output.old) (W.contents output.new)
-        (shown_audit (accepted_pairs settings.now (turns day.now))) }
+    ensures written { result ≡ 0 → (h : History) → IsAuditing settings.now h audit
+        → Appends (W.contents output.old) (W.contents output.new) (shown_audit (pairs settings.now h)) }
+    ensures run { result ≡ 0 → (h : History) → IsAuditing settings.now h audit → Holds settings.now h
+        → Appends (W.contents output.old) (W.contents output.new) (shown_audit (accepted_pairs settings.now h)) }
 {
-    match audit(alloc, day, settings) {
+    match audit.pairs(alloc, settings) {
         Ok(pairs) => write_audit(alloc, pairs.as_slice(), output, faults),
-        Err(fault) => tell_unread(fault, faults),
+        Err(fault) => tell_uncounted(fault, faults),
     }
 }
 
 /// Tells why an account wasn't read.
-fn tell_unread<F: Write>(fault: ReadingFault, faults: &mut F) -> u8
+fn tell_uncounted<F: Write>(fault: ReadingFault, faults: &mut F) -> u8
     ensures { result ≡ 1 }
 {
     let _ = match fault {
@@ -117,16 +122,27 @@ fn tell_unread<F: Write>(fault: ReadingFault, faults: &mut F) -> u8
     1
 }
 
-/// Tells why a file is none, and answers 2; 1 where memory ran out.
-pub(crate) fn tell_refusal<F: Write>(number: u32, fault: FileFault, faults: &mut F) -> u8
+/// Tells why a file wasn't read to its end: 2 where it is none.
+pub(crate) fn tell_unread<F: Write>(why: &Unread, faults: &mut F) -> u8
     ensures status { result ≤ 2 }
     ensures from_one { 1 ≤ result }
-    ensures refused { result ≡ 2 → fault ≡ Page NoMemory → ⊥ }
+    ensures refused { result ≡ 2 → NamesAPage why.now }
 {
-    if fault == FileFault::Page(PageFault::NoMemory) {
-        let _ = writeln!(faults, "{fault}");
-        return 1;
+    match why {
+        Unread::Account(fault) => tell_uncounted(*fault, faults),
+        Unread::File(fault) => {
+            let _ = writeln!(faults, "{fault}");
+            status_of(fault)
+        }
     }
-    let _ = writeln!(faults, "page {number}: {fault}");
-    2
+}
+
+/// The status where a file isn't read further.
+fn status_of(fault: &ReadFault) -> u8
+    ensures { (result ≤ 2) × (1 ≤ result) × (result ≡ 2 → NamesAPage (Unread.File fault.now)) }
+{
+    match fault {
+        ReadFault::NoFile(_, _) => 2,
+        ReadFault::NoMemory | ReadFault::Read(_) => 1,
+    }
 }

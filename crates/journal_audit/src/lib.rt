@@ -2,6 +2,7 @@
 #![tactic(auto)]
 
 mod audit;
+mod read_day;
 mod script;
 mod so_far;
 

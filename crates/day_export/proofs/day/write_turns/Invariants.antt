@@ -1,11 +1,12 @@
 -- The rows of the turns so far are written.
-use Rattle.std.proofs.Common.{map, take}
-use Rattle.std.specs.Io.KnownBytes.{Appends}
-use Rattle.gate_events.specs.Seen.{batch_seen}
-use Rattle.day_export.specs.Rows.{turns_text}
+use Rattle.std.proofs.Common.{length}
+use Rattle.gate_journal.specs.Left.{batches_left, events_left}
+use Rattle.day_export.proofs.Turns.{Writes}
 use Rattle.day_export.proofs.day.write_turns.Given as goal
 
-abbrev pub invariant-loop-i : goal.invariant-loop-i
-invariant-loop-i g l =
-    Appends (g.W.Write.contents l.initial.output) (g.W.Write.contents l.output)
-    (turns_text l.format (take l.i l.events) (map batch_seen (take l.i l.batches)))
+abbrev pub invariant-loop-event : goal.invariant-loop-event
+invariant-loop-event g l = Writes (g.W.Write.contents l.initial.output) (g.W.Write.contents l.output) l.format
+    l.part.events l.part.batches (events_left l.ahead) (batches_left l.ahead)
+
+abbrev pub decreases-loop-event : goal.decreases-loop-event
+decreases-loop-event g l = length (events_left l.ahead)
