@@ -1,2 +1,3 @@
 mod Starting
+mod Again
 pub mod Sent

@@ -1,4 +1,5 @@
 pub mod Offered
+pub mod Replayed
 pub use Rattle.desk_value.specs.Ahead
 pub use Rattle.desk_ends.specs.Rings
 pub use Rattle.desk_steps.specs.Agreeing

@@ -6,14 +6,17 @@
 #![tactic(auto)]
 
 mod opening;
+mod replaying;
 mod shared;
 mod told_outlets;
 
 pub use desk_ends::{DeskName, Finished, Inlet, Outlet, Recipient, more_places};
 pub use desk_steps::{GrowingHistory, History, Status, Turned};
 pub use desk_value::{Closed, Desk};
-pub use host_log::HostFile;
+pub use host_log::{HostFile, StoppedLog};
+pub use open_links::OpenLink;
 pub use opening::{Parts, open_desk};
+pub use replaying::{ReplayFault, Replayed};
 pub use shared::{Shared, Turns};
 pub use told_outlets::{ToldOutlets, WriteTold};
-pub use turn_log::{DayLog, LogFault};
+pub use turn_log::LogFault;

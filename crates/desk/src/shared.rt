@@ -1,22 +1,23 @@
 //! A desk that threads share.
 
-ghost use Rattle.std.specs.Prelude.{◌≡◌, List, vec_len};
+ghost use Rattle.std.specs.Prelude.{◌≡◌, [], List, length, vec_len};
 
+use crate::replaying::{ReplayFault, Replayed, begin, let_go, put, replay};
 use crate::told_outlets::{ToldOutlets, WriteTold};
-use desk_ends::{DeskName, Finished};
-use desk_steps::{History, PortFault, Status, Turned};
+use desk_ends::{DeskName, Finished, Inlet, Outlet};
+use desk_steps::{PortFault, Status, Turned};
 use desk_value::{Closed, Desk};
 use fix_fields::Fields;
 use fix_session::LogonFault;
 use gate_events::{ClientNumber, Event};
-use host_log::HostFile;
+use host_log::{HostFile, StoppedLog};
 use std::alloc::{AllocError, Global};
 use std::hash::{BuildHasher, BuildHasherDefault, FoldHasher};
 use std::sync::atomic::{AtomicBool, Ordering};
 use std::sync::{Mutex, MutexGuard, Wait};
 use std::thread::Parker;
 use std::time::Duration;
-use turn_log::{DayLog, LogFault};
+use turn_log::LogFault;
 
 /// So many rounds are made under one lock at most, before what they told is written.
 const UNDER_ONE_LOCK: u32 = 8;
@@ -73,8 +74,7 @@ impl<K: DeskName, S: BuildHasher + Drop> Shared<K, S> {
     ghost use Rattle.desk_steps.specs.Agreeing.{AreNamed};
     ghost use Rattle.desk_steps.specs.Settling.{AreSettled};
     ghost use Rattle.desk_value.specs.Ahead.{IsEnded, ToldIsKept};
-    ghost use Rattle.host_log.specs.Seen.{host_may_leave, host_seen};
-    ghost use Rattle.turn_log.specs.Kept.{HasAll};
+    ghost use Rattle.host_log.specs.Whole.{HasJust};
 
     /// This desk, to be shared, with the bells of its outlets.
     pub(crate) fn new(desk: Desk<K, S>, bells: Vec<Parker>) -> Shared<K, S>
@@ -236,37 +236,68 @@ impl<K: DeskName, S: BuildHasher + Drop> Shared<K, S> {
         self.is_lost.load(Ordering::SeqCst)
     }
 
-    /// Goes on with a log that has this day, once the lock could be had: where the history has just the day's events
-    /// and batches, what is stepped from now on is in the log, durably, before anybody is told.
-    ///
-    /// Else nothing is done, and it gives how many batches are the same before the first that differs. `AllocError`
-    /// gives the log up.
-    pub fn go_on(
-        &self,
-        rt: &impl Wait,
-        log: DayLog<HostFile>,
-        day: &History,
-    ) -> Result<Option<u64>, AllocError>
-        requires has { HasAll host_seen host_may_leave day.now.pages log.file }
-    {
-        let mut guard = self.desk.lock(rt);
-        let desk = &mut *guard;
-        desk.go_on(log, day)
-    }
-
-    /// A round, and the outlets that it told something: nobody's bell rings, and nothing is written. For who steps a
-    /// day again before anybody is served.
-    pub fn turn_alone(
+    /// Begins a journal of a day on which nothing came yet, in a file that has nothing, once the lock could be had:
+    /// what is stepped from now on is in it, durably, before anybody is told. `false` where something came: then
+    /// nothing is done. `AllocError` gives the file up.
+    pub fn begin_journal(
         &self,
         rt: &impl Wait,
         alloc: Global,
-    ) -> Result<(Turned, ToldOutlets), AllocError> {
+        file: HostFile,
+    ) -> Result<bool, AllocError>
+        requires { HasJust [] file }
+    {
+        let mut guard = self.desk.lock(rt);
+        let desk = &mut *guard;
+        begin(desk, alloc, file)
+    }
+
+    /// Goes on with a day that stopped, of which this is the journal's file, once the lock could be had: steps what it
+    /// has again and compares what comes of it, part by part; cuts off what a write that was cut short left; and what
+    /// is stepped from now on is in the file, durably, before anybody is told. What the day tells is let go: it was
+    /// told before, or is asked for anew. Where `is_later` is set syncs are left for later (`HostFile::synced_later`).
+    ///
+    /// The ends are to be this desk's. `OtherDay`, `Unread` and `NoMemory` leave the file as it was; `File` comes where
+    /// it can't be cut.
+    pub fn replay(
+        &self,
+        rt: &impl Wait,
+        alloc: Global,
+        stopped: StoppedLog,
+        is_later: bool,
+        inlets: &mut Vec<Inlet<K>>,
+        outlets: &mut Vec<Outlet<K>>,
+    ) -> Result<Replayed, ReplayFault>
+        ensures { length inlets.new.items ≡ length inlets.old.items }
+    {
+        let mut guard = self.desk.lock(rt);
+        let desk = &mut *guard;
+        replay(desk, alloc, stopped, is_later, inlets, outlets)
+    }
+
+    /// Puts an event through the inlet of its source, makes a round, and lets go what it told: nobody's bell rings. For
+    /// who steps what is missing before anybody is served. `false` where there is no such inlet, or the round made no
+    /// step.
+    pub fn step_alone(
+        &self,
+        rt: &impl Wait,
+        alloc: Global,
+        event: Event,
+        inlets: &mut Vec<Inlet<K>>,
+        outlets: &mut Vec<Outlet<K>>,
+    ) -> Result<bool, AllocError>
+        ensures { length inlets.new.items ≡ length inlets.old.items }
+    {
+        if !put(inlets, event) {
+            return Ok(false);
+        }
         let mut guard = self.desk.lock(rt);
         let desk = &mut *guard;
         let turned = desk.round(alloc)?;
         let prompt = self.told_by(desk, alloc);
         let waiting = ToldOutlets::of_bits(desk.take_waiting());
-        Ok((turned, prompt.and(waiting)))
+        let_go(outlets, prompt.and(waiting));
+        Ok(turned.steps != 0)
     }
 
     /// Has the older pages of the history leave memory, where there is a journal that has all of it, once the lock

@@ -10,8 +10,8 @@ mod told_pens;
 
 pub use bell::BellClock;
 pub use desk::{
-    Closed, DayLog, DeskName, Finished, HostFile, Inlet, Outlet, Parts, Shared, ToldOutlets,
-    open_desk,
+    Closed, DeskName, Finished, HostFile, Inlet, OpenLink, Outlet, Parts, ReplayFault, Replayed,
+    Shared, StoppedLog, ToldOutlets, open_desk,
 };
 pub use gate_workers::{Clock, Gate, Prompt};
 pub use inlet::InletGate;

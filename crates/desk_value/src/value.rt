@@ -7,13 +7,12 @@ ghost use Rattle.desk_value.specs.Ahead.{Ends, HasStill};
 
 use desk_ends::{DeskName, Finished};
 use desk_steps::{
-    GrowingHistory, History, PortFault, RecordedCore, Settings, Side, Status, Turned, round, settle,
+    GrowingHistory, PortFault, RecordedCore, Settings, Side, Status, Turned, round, settle,
 };
 use fix_fields::Fields;
 use fix_session::LogonFault;
 use gate_events::{ClientNumber, Event};
 use host_log::HostFile;
-use same_days::first_other;
 use std::alloc::{AllocError, Global};
 use std::hash::{BuildHasher, BuildHasherDefault, FoldHasher};
 use std::marker::{Model, PhantomData};
@@ -71,7 +70,6 @@ pub struct Closed {
 impl<K: DeskName, S: BuildHasher + Drop> Desk<K, S> {
     ghost use Rattle.std.specs.Prelude.{◌≡◌, IfErr, IfOk, List, MatchOption, None, OnOk, OnErr};
     ghost use Rattle.desk_value.specs.Ahead.{IsEnded, ToldIsKept};
-    ghost use Rattle.same_days.specs.Same.{IsOtherAt, IsSameDay};
     ghost use Rattle.gate_law.specs.After.{lists};
     ghost use Rattle.gate_law.specs.Holds.{Holds};
     ghost use Rattle.desk_steps.specs.gate_core.Board.{IsBoard};
@@ -100,7 +98,7 @@ impl<K: DeskName, S: BuildHasher + Drop> Desk<K, S> {
 
     /// From now on what is stepped is written into this log before anybody is told: the log has all of the history so
     /// far. `AllocError` gives the log up.
-    fn begin_journal(&mut self, log: DayLog<HostFile>) -> Result<(), AllocError>
+    pub fn begin_journal(&mut self, log: DayLog<HostFile>) -> Result<(), AllocError>
         requires has { HasAll host_seen host_may_leave self.old.recorded.kept.pages log.file }
         ensures recorded { self.new.recorded ≡ self.old.recorded }
     {
@@ -137,28 +135,16 @@ impl<K: DeskName, S: BuildHasher + Drop> Desk<K, S> {
         }
     }
 
+    /// Has the older pages of the history leave memory, for who has all of it written elsewhere. Takes no memory.
+    pub fn drop_written(&mut self)
+        ensures { self.new ≡ self.old }
+    {
+        self.recorded.drop_older();
+    }
+
     /// Whether it has a journal.
     pub fn has_journal(&self) -> bool {
         self.journal.is_some()
-    }
-
-    /// Goes on with a journal of this day, as `begin_journal` does, where the history has just its events and batches.
-    /// Else nothing is done, and it gives how many batches are the same before the first that differs. `AllocError`
-    /// comes also where pages of the history left memory: it has a journal.
-    pub fn go_on(&mut self, log: DayLog<HostFile>, day: &History) -> Result<Option<u64>, AllocError>
-        requires has { HasAll host_seen host_may_leave day.now.pages log.file }
-        ensures recorded { self.new.recorded ≡ self.old.recorded }
-        ensures same { IfOk result (λ other. MatchOption other (IsSameDay self.old.recorded.kept day.now)
-            (λ place. IsOtherAt place self.old.recorded.kept day.now)) }
-    {
-        let Some(pages) = self.recorded.history().whole() else {
-            return Err(AllocError);
-        };
-        if let Some(place) = first_other(pages, day.pages()) {
-            return Ok(Some(place));
-        }
-        self.begin_journal(log)?;
-        Ok(None)
     }
 
     /// Goes once round the inlets, in order, and steps an event of each at most. An event waits where a ring is full to

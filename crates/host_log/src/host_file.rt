@@ -36,21 +36,27 @@ pub struct HostFile {
 }
 
 impl HostFile {
-    /// A file that has these bytes, all of them durable, which is trusted.
-    pub(crate) fn with(file: File, bytes: &[u8]) -> HostFile
-        ensures noted { result.noted.bytes ≡ bytes.now }
-        ensures durable { result.durable ≡ length bytes.now }
+    /// A file that has the bytes that were noted, so many, all of them durable, which is trusted.
+    pub(crate) fn with(file: File, noted: Noted, size: u64) -> HostFile
+        requires { size ≡ length noted.bytes }
+        ensures noted { result.noted.bytes ≡ noted.bytes }
+        ensures durable { result.durable ≡ length noted.bytes }
     {
-        let mut noted = Noted::new();
-        noted.note(bytes);
         HostFile {
             file,
             noted,
             failures: Noted::new(),
-            size: bytes.len() as u64,
-            durable: bytes.len() as u64,
+            size,
+            durable: size,
             later: None,
         }
+    }
+
+    /// How many bytes it has. Takes no memory.
+    pub fn size(&self) -> u64
+        ensures { result ≡ length self.now.noted.bytes }
+    {
+        self.size
     }
 
     /// Whether a later sync failed.

@@ -1,13 +1,14 @@
 //! A log's file, opened.
 
-ghost use Rattle.std.specs.Prelude.{◌≡◌, [], take, IfOk};
+ghost use Rattle.std.specs.Prelude.{◌≡◌, [], length, take, IfOk};
 ghost use Rattle.host_log.specs.Whole.{HasJust, HasNothing};
 
 use crate::fault::{OpenFault, fault_of};
 use crate::host_file::HostFile;
-use std::alloc::Global;
+use journal_file::{DayReader, SizedBytes};
+use noted_bytes::Noted;
 use std::fs::{File, Files, OpenOptions, TryLockError};
-use std::io::{self, ErrorKind, Read};
+use std::io::{self, ErrorKind, Seek};
 use std::os::unix::fs::OpenOptionsExt;
 use std::path::Path;
 
@@ -20,52 +21,54 @@ pub enum FoundLog {
     There(StoppedLog),
 }
 
-/// A log's file that was there, and what it has: a day that stopped. Nobody else can open it as a log.
+/// A log's file that was there: of a day that stopped, or is over. Nobody else can open it as a log.
 #[derive(Drop)]
 pub struct StoppedLog {
     file: File,
-    bytes: Vec<u8>,
 }
 
 impl StoppedLog {
-    /// What the file has.
-    pub fn bytes(&self) -> &[u8]
-        ensures { result.now ≡ self.now.bytes.items }
-    {
-        self.bytes.as_slice()
+    /// The file, to be read; at first from its beginning.
+    pub fn file(&mut self) -> &mut File {
+        &mut self.file
     }
 
-    /// Goes on behind so many of its bytes: those behind them are cut, and the cut is durable before anything is added,
-    /// since else what was cut might come back behind it. What was read may not have been durable; it is now.
-    pub fn go_on(self, size: usize) -> Result<HostFile, OpenFault>
-        ensures { IfOk result (λ file. HasJust (take size self.bytes.items) file) }
+    /// Has the file be read from its beginning again.
+    pub fn rewind(&mut self) -> Result<(), OpenFault> {
+        match self.file.rewind() {
+            Ok(()) => Ok(()),
+            Err(error) => Err(fault_of(&error)),
+        }
+    }
+
+    /// Goes on behind these bytes, with which the file begins, as it was read: those behind them are cut, and the cut
+    /// is durable before anything is added, since else what was cut might come back behind it. What was read may not
+    /// have been durable; it is now.
+    pub fn go_on(self, reader: &DayReader, written: SizedBytes) -> Result<HostFile, OpenFault>
+        requires front { take (length written) reader.now.read ≡ written }
+        ensures { IfOk result (λ file. HasJust (take (length written) reader.now.read) file) }
     {
-        let StoppedLog { file, bytes } = self;
-        let Some(whole) = bytes.get(..size) else {
-            return Err(OpenFault::Failed);
-        };
-        cut(&file, size as u64)?;
-        Ok(HostFile::with(file, whole))
+        let StoppedLog { file } = self;
+        let _ = reader;
+        let size = written.size();
+        cut(&file, size)?;
+        Ok(HostFile::with(file, written.into_noted(), size))
     }
 }
 
 /// Opens a log's file: made new where there is none, which its owner alone may read and write, else with what it has.
 /// It is locked, so that another process that opens it is refused, for as long as it is open; its name is durable.
-pub fn open_log<R: Files<File = File>>(
-    rt: &R,
-    alloc: Global,
-    path: &str,
-) -> Result<FoundLog, OpenFault>
+pub fn open_log<R: Files<File = File>>(rt: &R, path: &str) -> Result<FoundLog, OpenFault>
     ensures { IfOk result HasNothing }
 {
     match make_new(rt, path) {
         Ok(file) => {
             lock(&file)?;
             sync_folder(rt, path)?;
-            Ok(FoundLog::New(HostFile::with(file, &[])))
+            Ok(FoundLog::New(HostFile::with(file, Noted::new(), 0)))
         }
         Err(error) if error.kind() == ErrorKind::AlreadyExists => {
-            let stopped = find_log(rt, alloc, path)?;
+            let stopped = find_log(rt, path)?;
             Ok(FoundLog::There(stopped))
         }
         Err(error) => Err(fault_of(&error)),
@@ -83,24 +86,16 @@ fn make_new<R: Files<File = File>>(rt: &R, path: &str) -> io::Result<File> {
         .open(rt, path)
 }
 
-/// Opens a log's file that is there, locks it as `open_log` does, and reads it. `Missing` where it isn't there.
-pub fn find_log<R: Files<File = File>>(
-    rt: &R,
-    alloc: Global,
-    path: &str,
-) -> Result<StoppedLog, OpenFault> {
+/// Opens a log's file that is there, and locks it as `open_log` does. `Missing` where it isn't there.
+pub fn find_log<R: Files<File = File>>(rt: &R, path: &str) -> Result<StoppedLog, OpenFault> {
     let mut options = OpenOptions::new();
-    let mut file = match options.read(true).append(true).open(rt, path) {
+    let file = match options.read(true).append(true).open(rt, path) {
         Ok(file) => file,
         Err(error) => return Err(fault_of(&error)),
     };
     lock(&file)?;
     sync_folder(rt, path)?;
-    let mut bytes = Vec::new(alloc);
-    match file.read_to_end(&mut bytes) {
-        Ok(_) => Ok(StoppedLog { file, bytes }),
-        Err(error) => Err(fault_of(&error)),
-    }
+    Ok(StoppedLog { file })
 }
 
 /// Locks a file, or finds that another process has it.

@@ -21,12 +21,16 @@ FirstDiffer [] (s ∷ ss) = Unit {0}
 FirstDiffer (r ∷ rs) [] = Unit {0}
 FirstDiffer (r ∷ rs) (s ∷ ss) = r ≡ s → ⊥
 
--- the same records in front of both, in which so many batches end, and then others
-pub record DifferBehind (batches : ℕ) (rs ss : List Record) : Type 0 where
+-- the same records in front of both, with which so many batches come to be this many, and then others
+pub record DifferFrom (before batches : ℕ) (rs ss : List Record) : Type 0 where
   pub front : List Record
   pub left : List Record
   pub right : List Record
   pub first : rs ≡ front ++ left
   pub second : ss ≡ front ++ right
   pub apart : FirstDiffer left right
-  pub count : batches ≡ batches_behind 0 front
+  pub count : batches ≡ batches_behind before front
+
+-- the same records in front of both, in which so many batches end, and then others
+abbrev pub DifferBehind : ℕ → List Record → List Record → Type 0
+DifferBehind batches rs ss = DifferFrom 0 batches rs ss

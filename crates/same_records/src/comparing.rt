@@ -1,10 +1,10 @@
 //! Records of two days, side by side.
 
-ghost use Rattle.std.specs.Prelude.{◌≡◌, true, false, MatchOption};
+ghost use Rattle.std.specs.Prelude.{◌≡◌, true, false, MatchOption, MatchResult};
 ghost use Rattle.journal_days.specs.Left.{records_left};
 ghost use Rattle.journal_pages.specs.Seen.{record_seen};
 ghost use Rattle.same_records.specs.Apart as spec;
-ghost use Rattle.same_records.specs.Apart.{DifferBehind};
+ghost use Rattle.same_records.specs.Apart.{DifferBehind, DifferFrom, batches_behind};
 
 use journal_days::DayRecords;
 use journal_pages::{RecordKind, RecordView};
@@ -15,23 +15,42 @@ pub fn first_difference(records: DayRecords<'_>, others: DayRecords<'_>) -> Opti
     ensures { MatchOption result (records_left records.entry ≡ records_left others.entry)
         (λ batches. DifferBehind batches (records_left records.entry) (records_left others.entry)) }
 {
+    match difference_behind(0, records, others) {
+        Ok(_) => None,
+        Err(batches) => Some(batches),
+    }
+}
+
+/// The same of records behind so many whole batches: how many there are behind both, where the records are the same;
+/// else, as an error, how many there are before the first record that differs. Past 2^64 - 1 both stay. Takes no
+/// memory.
+pub fn difference_behind(
+    before: u64,
+    records: DayRecords<'_>,
+    others: DayRecords<'_>,
+) -> Result<u64, u64>
+    ensures { MatchResult result
+        (λ batches. (records_left records.entry ≡ records_left others.entry)
+        × (batches ≡ batches_behind before (records_left records.entry)))
+        (λ batches. DifferFrom before batches (records_left records.entry) (records_left others.entry)) }
+{
     let mut rest = records;
     let mut left = others;
-    let mut batches = 0u64;
+    let mut batches = before;
     while let Some((first, behind)) = rest.split_first() {
         let Some((second, further)) = left.split_first() else {
-            return Some(batches);
+            return Err(batches);
         };
         if !is_same_record(&first, &second) {
-            return Some(batches);
+            return Err(batches);
         }
         batches = with_record(batches, first.kind);
         rest = behind;
         left = further;
     }
     match left.split_first() {
-        Some(_) => Some(batches),
-        None => None,
+        Some(_) => Err(batches),
+        None => Ok(batches),
     }
 }
 

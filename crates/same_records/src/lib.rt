@@ -3,4 +3,4 @@
 
 mod comparing;
 
-pub use comparing::first_difference;
+pub use comparing::{difference_behind, first_difference};

@@ -2,4 +2,5 @@ mod GoesOn
 mod Read
 mod Behind
 mod Recent
+mod Since
 pub mod Keeping

@@ -8,10 +8,10 @@ ghost use Rattle.journal_days.specs.Cut.{IsMoreOf};
 ghost use Rattle.day_log.specs.Log.{IsSettled};
 ghost use Rattle.turn_log.specs.Kept.{EndsAt, HasDay, HasEnd, HasPages, StandsAt};
 
-use crate::mark::{FRONT, Mark, count_before, count_in_page, mark_at, page_since};
+use crate::comparing::mark_of;
+use crate::mark::{FRONT, HistoryMark, count_before, count_in_page, mark_at, page_since};
 use day_log::{DayLog, LogFault, LogFile};
 use gate_journal::{GrowingHistory, RecentPages};
-use journal_days::next_number;
 use std::alloc::Global;
 use std::marker::Model;
 
@@ -19,7 +19,7 @@ use std::marker::Model;
 #[derive(Drop)]
 pub struct TurnLog<F: LogFile> {
     log: DayLog<F>,
-    mark: Mark,
+    mark: HistoryMark,
 }
 
 impl<F: LogFile> Model for TurnLog<F> {
@@ -44,11 +44,17 @@ impl<F: LogFile> TurnLog<F> {
         ensures mark { StandsAt history.now.pages result }
         ensures history { history.now ≡ kept_in history.now.pages }
     {
-        let RecentPages { left, pages } = history.recent();
         TurnLog {
             log,
-            mark: mark_at(left, pages, next_number(pages)),
+            mark: mark_of(history),
         }
+    }
+
+    /// Its file. Takes no memory.
+    pub fn file(&self) -> &F
+        ensures { result.now ≡ self.now.file }
+    {
+        self.log.file()
     }
 
     /// Whether the log has all of a history, where it has its beginning.

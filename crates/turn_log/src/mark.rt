@@ -20,7 +20,7 @@ pub(crate) const FRONT: usize = 12;
 /// How far a history's pages are in its log: how many pages there are, how many bytes the last one has, and how many
 /// records all of them.
 #[derive(Clone, Copy, Debug, PartialEq, Eq)]
-pub(crate) struct Mark {
+pub struct HistoryMark {
     /// Wide enough for any pages, in memory or not.
     pub pages: u128,
     pub bytes: usize,
@@ -28,12 +28,12 @@ pub(crate) struct Mark {
 }
 
 /// Where these pages end, of which so many aren't in memory, behind so many records. Takes no memory.
-pub(crate) fn mark_at(left: usize, pages: &[Vec<u8>], records: u64) -> Mark
+pub(crate) fn mark_at(left: usize, pages: &[Vec<u8>], records: u64) -> HistoryMark
     ensures pages { result.pages ≡ left + length pages.now }
     ensures bytes { result.bytes ≡ spec.last_size (texts pages.now) }
     ensures records { result.records ≡ records }
 {
-    Mark {
+    HistoryMark {
         pages: left as u128 + pages.len() as u128,
         bytes: last_size(pages),
         records,
@@ -51,7 +51,7 @@ fn last_size(pages: &[Vec<u8>]) -> usize
 }
 
 /// How many of the pages in memory stand in front of a mark; `None` where the page that it stands in isn't in memory.
-pub(crate) fn count_before(mark: &Mark, left: usize) -> Option<usize>
+pub(crate) fn count_before(mark: &HistoryMark, left: usize) -> Option<usize>
     ensures { IfSome result (λ count. IsBefore left mark.now.pages count) }
 {
     if left == 0 {
@@ -91,7 +91,7 @@ pub(crate) fn page_since(
     alloc: Global,
     pages: &[Vec<u8>],
     count: usize,
-    mark: &Mark,
+    mark: &HistoryMark,
 ) -> Result<Vec<u8>, AllocError>
     ensures { IfOk result (λ page. page.items
         ≡ page_front mark.now.records ++ bytes_since count mark.now.bytes (texts pages.now)) }

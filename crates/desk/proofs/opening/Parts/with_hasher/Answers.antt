@@ -1,4 +1,4 @@
-use Rattle.std.proofs.Common.{◌≡◌, ◌<◌, ◌+◌, ℕ, length, ap, sym, subst, ◌∙◌, refl, arith}
+use Rattle.std.proofs.Common.{◌≡◌, ◌<◌, ◌+◌, ℕ, length, ap, subst, refl, arith}
 use Rattle.std.specs.Prelude.{map}
 use Rattle.desk_rings.specs.Made.{inlet_name, outlet_name}
 use Rattle.desk.specs.Offered.{AreFor, Offered}

@@ -2,10 +2,10 @@
 use Rattle.std.proofs.Common.{length}
 use Rattle.journal_days.specs.Left.{records_left}
 use Rattle.same_records.proofs.Sides.{SameSoFar}
-use Rattle.same_records.proofs.comparing.first_difference.Given as goal
+use Rattle.same_records.proofs.comparing.difference_behind.Given as goal
 
 abbrev pub invariant-loop-first : goal.invariant-loop-first
-invariant-loop-first l = SameSoFar l.batches (records_left l.fn.records) (records_left l.fn.others)
+invariant-loop-first l = SameSoFar l.fn.before l.batches (records_left l.fn.records) (records_left l.fn.others)
     (records_left l.rest) (records_left l.left)
 
 abbrev pub decreases-loop-first : goal.decreases-loop-first
