@@ -2,14 +2,14 @@
 
 use super::no_seed;
 use gateway_run::{
-    Day, DayJournal, History, RunFault, Settings, SettingsFile, audit_day, end_day, end_stopped,
+    AuditedDay, Day, DayJournal, RunFault, SettingsFile, end_day, end_stopped, end_stopped_day,
     run_settings, tell,
 };
 use gateway_serve::{Bound, OperatorSettings, serve_day, tell_open_orders};
 use std::alloc::Global;
 use std::fs::{File, Files};
 use std::hash::RandomState;
-use std::io::{self, BufWriter, Read, Write};
+use std::io::{self, BufWriter, Write};
 use std::net::{Net, TcpListener, TcpStream};
 use std::process::ExitCode;
 use std::random::RandomSource;
@@ -40,6 +40,15 @@ pub(crate) enum AskedDay {
     },
 }
 
+/// How a day ends: one that was run; one that was served, whose orders that aren't over are named; and one that
+/// stopped, of which that is told too, and which has no link up at its end.
+#[derive(Clone, Copy, PartialEq, Eq)]
+enum DayEnd {
+    Run,
+    Served,
+    Stopped,
+}
+
 // Not derived: then each way out drops it in one call (docs/DECISIONS.md, "Drops").
 impl Drop for AskedDay {
     fn drop(self) {
@@ -64,9 +73,13 @@ impl Drop for AskedDay {
 }
 
 impl AskedDay {
-    /// Whether the orders that aren't over are told at its end.
-    fn tells_open_orders(&self) -> bool {
-        !matches!(self, AskedDay::Run { .. })
+    /// How it ends.
+    fn end(&self) -> DayEnd {
+        match self {
+            AskedDay::Run { .. } => DayEnd::Run,
+            AskedDay::Serve { .. } => DayEnd::Served,
+            AskedDay::End { .. } => DayEnd::Stopped,
+        }
     }
 
     /// Has it, and gives it once it is over.
@@ -143,9 +156,9 @@ where
     let Ok(mut output) = BufWriter::new(alloc, io::writer(rt)) else {
         return ExitCode::from(tell(RunFault::NoMemory, faults));
     };
-    let tells_open = asked.tells_open_orders();
+    let end = asked.end();
     let status = match asked.have(rt, alloc, hasher) {
-        Ok(day) => status_of(rt, alloc, day, path, tells_open, &mut output, faults),
+        Ok(day) => status_of(rt, alloc, day, path, end, &mut output, faults),
         Err(fault) => tell(fault, faults),
     };
     ExitCode::from(status)
@@ -163,86 +176,51 @@ where
     }
 }
 
-/// Ends a day. The status is 0 where all orders agree, its journal has it, where there is one, and all of the orders
-/// that aren't over could be named, where they are to be.
+/// Ends a day. The status is 0 where all orders agree, its journal has it, where there is one, all of the orders that
+/// aren't over could be named, where they are to be, and no link is up at the end of one that stopped.
 fn status_of<R: Files<File = File>, W: Write, F: Write>(
     rt: &R,
     alloc: Global,
     day: Day,
     path: Option<&str>,
-    tells_open: bool,
+    end: DayEnd,
     output: &mut W,
     faults: &mut F,
 ) -> u8 {
-    match path {
-        Some(path) => written_status(rt, alloc, day, path, tells_open, output, faults),
-        None => whole_status(alloc, &day, tells_open, output, faults),
-    }
-}
-
-/// The same of a day whose history is in memory.
-fn whole_status<W: Write, F: Write>(
-    alloc: Global,
-    day: &Day,
-    tells_open: bool,
-    output: &mut W,
-    faults: &mut F,
-) -> u8 {
-    let status = audit_day(alloc, day, output, faults);
-    match day.history() {
-        Some(history) if tells_open => with_open(alloc, history, day.settings(), status, faults),
-        _ => status,
-    }
-}
-
-/// The same of a day with a journal at this path, which is read again.
-fn written_status<R: Files<File = File>, W: Write, F: Write>(
-    rt: &R,
-    alloc: Global,
-    day: Day,
-    path: &str,
-    tells_open: bool,
-    output: &mut W,
-    faults: &mut F,
-) -> u8 {
-    let Ok(file) = bytes_at(rt, alloc, path) else {
-        let status = whole_status(alloc, &day, tells_open, output, faults);
-        let _ = writeln!(faults, "gateway: cannot read {path}");
-        return status.max(1);
+    let audited = match path {
+        Some(path) => match written_at(rt, path) {
+            Ok(mut file) => day.audited_by(alloc, &mut file),
+            Err(_) => {
+                let _ = writeln!(faults, "gateway: cannot read {path}");
+                day.audited(alloc).map(unwritten)
+            }
+        },
+        None => day.audited(alloc),
     };
-    let read = match day.read_again(alloc, file.as_slice()) {
-        Ok(read) => read,
+    let day = match audited {
+        Ok(day) => day,
         Err(fault) => return tell(fault, faults),
     };
-    drop(file);
-    let status = end_day(alloc, &read, output, faults);
-    if tells_open {
-        with_open(alloc, &read.history, &read.settings, status, faults)
-    } else {
-        status
+    let status = match end {
+        DayEnd::Run | DayEnd::Served => end_day(alloc, &day, output, faults),
+        DayEnd::Stopped => end_stopped_day(alloc, &day, output, faults),
+    };
+    if end != DayEnd::Run && !tell_open_orders(alloc, &day.pairs, &day.settings, faults) {
+        return status.max(1);
     }
+    status
 }
 
-/// A status, once the orders that aren't over were named: 1 where not all of them could be.
-fn with_open<F: Write>(
-    alloc: Global,
-    history: &History,
-    settings: &Settings,
-    status: u8,
-    faults: &mut F,
-) -> u8 {
-    if tell_open_orders(alloc, history, settings, faults) {
-        status
-    } else {
-        status.max(1)
-    }
+/// The same day, which its journal doesn't have.
+fn unwritten(day: AuditedDay) -> AuditedDay {
+    let mut day = day;
+    day.has_day = false;
+    day
 }
 
-/// The bytes of a file, all of it on the disk: also where syncing it was left for later.
-fn bytes_at<R: Files<File = File>>(rt: &R, alloc: Global, path: &str) -> io::Result<Vec<u8>> {
-    let mut file = File::open(rt, path)?;
+/// The file of a journal, all of it on the disk: also where syncing it was left for later.
+fn written_at<R: Files<File = File>>(rt: &R, path: &str) -> io::Result<File> {
+    let file = File::open(rt, path)?;
     file.sync_all()?;
-    let mut bytes = Vec::new(alloc);
-    let _ = file.read_to_end(&mut bytes)?;
-    Ok(bytes)
+    Ok(file)
 }

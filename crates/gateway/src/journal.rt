@@ -2,7 +2,7 @@
 
 use super::{out_of_memory, refused};
 use gateway_command::{Syncs, syncs_of};
-use gateway_run::{DayJournal, StoppedFault};
+use gateway_run::{DayJournal, StoppedDay, StoppedFault};
 use host_log::{FoundLog, OpenFault, StoppedLog, find_log, open_log};
 use std::process::ExitCode;
 
@@ -28,11 +28,11 @@ pub(crate) fn journal_asked(
 /// The journal at a path: made new, or a day that stopped and goes on. It is locked as long as the gateway runs. The
 /// status where it can't be had: it is in use, is of a day that is over, or is damaged.
 fn journal_at(rt: &HostRuntime, path: &str, syncs: Syncs) -> Result<DayJournal, ExitCode> {
-    match open_log(rt, rt.alloc(), path) {
-        Ok(FoundLog::New(file)) => synced(rt, path, DayJournal::begun(rt.alloc(), file), syncs),
+    match open_log(rt, path) {
+        Ok(FoundLog::New(file)) => Ok(synced(DayJournal::begun(file), syncs)),
         Ok(FoundLog::There(stopped)) => {
             let journal = stopped_day(rt, path, stopped, "goes on")?;
-            synced(rt, path, journal, syncs)
+            Ok(synced(journal, syncs))
         }
         Err(fault) => Err(unopened(rt, path, fault)),
     }
@@ -40,30 +40,18 @@ fn journal_at(rt: &HostRuntime, path: &str, syncs: Syncs) -> Result<DayJournal, 
 
 /// The journal of a day that stopped and is ended: one that is there. The status as above.
 pub(crate) fn stopped_at(rt: &HostRuntime, path: &str) -> Result<DayJournal, ExitCode> {
-    match find_log(rt, rt.alloc(), path) {
+    match find_log(rt, path) {
         Ok(stopped) => stopped_day(rt, path, stopped, "ends"),
         Err(fault) => Err(unopened(rt, path, fault)),
     }
 }
 
 /// A journal that is synced so.
-fn synced(
-    rt: &HostRuntime,
-    path: &str,
-    journal: DayJournal,
-    syncs: Syncs,
-) -> Result<DayJournal, ExitCode> {
-    let later = match syncs {
-        Syncs::Each => return Ok(journal),
-        Syncs::Every(milliseconds) => journal.synced_later(
-            rt.alloc(),
-            Some(u64::from(milliseconds)),
-        ),
-        Syncs::Never => journal.synced_later(rt.alloc(), None),
-    };
-    match later {
-        Ok(journal) => Ok(journal),
-        Err(fault) => Err(unopened(rt, path, fault)),
+fn synced(journal: DayJournal, syncs: Syncs) -> DayJournal {
+    match syncs {
+        Syncs::Each => journal,
+        Syncs::Every(milliseconds) => journal.synced_later(Some(u64::from(milliseconds))),
+        Syncs::Never => journal.synced_later(None),
     }
 }
 
@@ -74,8 +62,12 @@ fn stopped_day(
     stopped: StoppedLog,
     becomes: &str,
 ) -> Result<DayJournal, ExitCode> {
-    let (journal, torn) = match DayJournal::of_stopped(rt.alloc(), stopped) {
-        Ok(journal) => journal,
+    let StoppedDay {
+        journal,
+        events,
+        torn,
+    } = match DayJournal::of_stopped(rt.alloc(), stopped) {
+        Ok(day) => day,
         Err(StoppedFault::NoMemory) => return Err(out_of_memory(rt)),
         Err(StoppedFault::File(fault)) => return Err(unopened(rt, path, fault)),
         Err(fault) => {
@@ -83,7 +75,6 @@ fn stopped_day(
             return Err(ExitCode::from(2));
         }
     };
-    let events = journal.day().count();
     let _ = eprintln!(rt; "gateway: journal: {path} {becomes} behind {events} events");
     if torn > 0 {
         let _ = eprintln!(rt;

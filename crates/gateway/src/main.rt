@@ -3,14 +3,15 @@
 
 ghost use Rattle.std.specs.Prelude.{◌≤◌};
 
-use day_export::{Format, export_day, format_of};
+use day_export::{ExportFault, Format, export_file, format_of};
 use gateway_command::{Asked, Error, asked, is_version, links_of};
 use gateway_demo::show_demo;
 use gateway_run::{SettingsFault, SettingsFile, read};
 use journal_audit::{audit_file, audit_so_far, script_file};
-use journal_file::{DayFile, Ending, FileFault, PageFault, read_file};
+use journal_file::{Ending, ReadFault};
 use script_command::{audit_script, tell_refusal};
 use std::alloc::Global;
+use std::fs::File;
 use std::hash::RandomState;
 use std::io::{self, BufWriter, ErrorKind, Write};
 use std::net::{Net, TcpListener, TcpStream};
@@ -144,11 +145,14 @@ fn file_at(rt: &HostRuntime, path: &str) -> Result<Vec<u8>, ExitCode> {
     match fs::read(rt, path) {
         Ok(bytes) => Ok(bytes),
         Err(error) if error.kind() == ErrorKind::OutOfMemory => Err(out_of_memory(rt)),
-        Err(_) => {
-            let _ = eprintln!(rt; "gateway: cannot read {path}");
-            Err(ExitCode::from(2))
-        }
+        Err(_) => Err(cannot_read(rt, path)),
     }
+}
+
+/// Tells that a file can't be read.
+fn cannot_read(rt: &HostRuntime, path: &str) -> ExitCode {
+    let _ = eprintln!(rt; "gateway: cannot read {path}");
+    ExitCode::from(2)
 }
 
 /// Audits a script, or writes its day as a journal.
@@ -172,22 +176,48 @@ fn audit_journal(rt: &HostRuntime, journal: &str, settings: &str, is_so_far: boo
         Ok(file) => file,
         Err(status) => return status,
     };
-    match file_at(rt, journal) {
-        Ok(day) => audit_day_of(rt, day.as_slice(), &file, is_so_far),
+    match opened_at(rt, journal) {
+        Ok(day) => audit_day_of(rt, day, &file, is_so_far),
         Err(status) => status,
     }
 }
 
+/// A file that is open to be read, or the status where it can't be.
+fn opened_at(rt: &HostRuntime, path: &str) -> Result<File, ExitCode> {
+    let file = match File::open(rt, path) {
+        Ok(file) => file,
+        Err(error) if error.kind() == ErrorKind::OutOfMemory => return Err(out_of_memory(rt)),
+        Err(_) => return Err(cannot_read(rt, path)),
+    };
+    match file.metadata() {
+        Ok(about) if about.is_dir() => Err(cannot_read(rt, path)),
+        _ => Ok(file),
+    }
+}
+
 /// Audits a day by its settings.
-fn audit_day_of(rt: &HostRuntime, day: &[u8], file: &SettingsFile, is_so_far: bool) -> ExitCode {
+fn audit_day_of(rt: &HostRuntime, day: File, file: &SettingsFile, is_so_far: bool) -> ExitCode {
     let alloc = rt.alloc();
     let Ok(mut output) = BufWriter::new(alloc, io::writer(rt)) else {
         return out_of_memory(rt);
     };
+    let mut input = day;
     let status = if is_so_far {
-        audit_so_far(alloc, day, &file.settings, &mut output, &mut rt.stderr())
+        audit_so_far(
+            alloc,
+            &mut input,
+            &file.settings,
+            &mut output,
+            &mut rt.stderr(),
+        )
     } else {
-        audit_file(alloc, day, &file.settings, &mut output, &mut rt.stderr())
+        audit_file(
+            alloc,
+            &mut input,
+            &file.settings,
+            &mut output,
+            &mut rt.stderr(),
+        )
     };
     ExitCode::from(status)
 }
@@ -197,44 +227,35 @@ fn export_journal(rt: &HostRuntime, journal: &str, format: Option<&str>) -> Exit
     let Some(format) = format_of(format) else {
         return refused(rt, "--format is csv, json or messages");
     };
-    match file_at(rt, journal) {
-        Ok(day) => export_of(rt, day.as_slice(), format),
+    match opened_at(rt, journal) {
+        Ok(day) => export_of(rt, day, format),
         Err(status) => status,
     }
 }
 
-/// The same of a journal's bytes.
-fn export_of(rt: &HostRuntime, day: &[u8], format: Format) -> ExitCode {
-    match read_file(rt.alloc(), day) {
-        Ok(read) => export_read(rt, &read, format),
-        Err((page, fault)) => damaged(rt, page, fault),
-    }
-}
-
-/// Tells that a journal's file is damaged, and where.
-fn damaged(rt: &HostRuntime, page: u32, fault: FileFault) -> ExitCode {
-    if matches!(fault, FileFault::Page(PageFault::NoMemory)) {
-        return out_of_memory(rt);
-    }
-    let _ = eprintln!(rt; "page {page}: {fault}");
-    ExitCode::from(2)
-}
-
-/// Prints the messages of a day that was read, and tells where it goes on.
-fn export_read(rt: &HostRuntime, read: &DayFile, format: Format) -> ExitCode {
+/// The same of a journal's file, and tells where its day goes on.
+fn export_of(rt: &HostRuntime, day: File, format: Format) -> ExitCode {
     let alloc = rt.alloc();
-    if read.ending != Ending::Over {
-        let _ = eprintln!(rt; "the day goes on");
-    }
     let Ok(mut output) = BufWriter::new(alloc, io::writer(rt)) else {
         return out_of_memory(rt);
     };
-    match export_day(alloc, format, &read.day, &mut output) {
-        Ok(()) => ExitCode::from(0),
-        Err(fault) => {
-            let _ = eprintln!(rt; "{fault}");
-            ExitCode::from(1)
+    let mut input = day;
+    match export_file(alloc, format, &mut input, &mut output) {
+        Ok(Ending::Over) => ExitCode::from(0),
+        Ok(Ending::GoesOn | Ending::Torn(_)) => {
+            let _ = eprintln!(rt; "the day goes on");
+            ExitCode::from(0)
         }
+        Err(fault) => not_exported(rt, &fault),
+    }
+}
+
+/// Tells why a day isn't exported: 2 where its file is none.
+fn not_exported(rt: &HostRuntime, fault: &ExportFault) -> ExitCode {
+    let _ = eprintln!(rt; "{fault}");
+    match fault {
+        ExportFault::File(ReadFault::NoFile(_, _)) => ExitCode::from(2),
+        ExportFault::File(_) | ExportFault::Stream(_) => ExitCode::from(1),
     }
 }
 

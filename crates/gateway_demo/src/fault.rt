@@ -44,8 +44,13 @@ impl From<RunFault> for DemoFault {
     fn from(fault: RunFault) -> DemoFault {
         match fault {
             // A demonstration has no journal.
-            RunFault::NoMemory | RunFault::OtherDay(_) | RunFault::LinkUp | RunFault::NoDay =>
-                DemoFault::NoMemory,
+            RunFault::NoMemory
+            | RunFault::OtherDay(_)
+            | RunFault::Unread
+            | RunFault::Journal(_)
+            | RunFault::TooLarge
+            | RunFault::LinkUp
+            | RunFault::NoDay => DemoFault::NoMemory,
             RunFault::NoThread => DemoFault::NoThread,
         }
     }

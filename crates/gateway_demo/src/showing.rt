@@ -64,7 +64,7 @@ where
     ensures told { result ≡ 0 → AuditIsTold (W.contents output.old) (W.contents output.new) }
 {
     match demo(rt, alloc, hasher) {
-        Ok(day) => audit_day(alloc, &day, output, faults),
+        Ok(day) => audit_day(alloc, day, output, faults),
         Err(fault) => tell(fault, faults),
     }
 }

@@ -1,4 +1,4 @@
+mod Audited
 mod Back
 mod Kept
 mod Sent
-mod Stopped

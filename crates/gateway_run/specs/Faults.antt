@@ -3,7 +3,8 @@ use Rattle.std.specs.Prelude.{ℕ}
 use Rattle.gate_serving.specs.declared.serving.ServeFault.{ServeFault}
 use Rattle.gate_serving.specs.declared.serving.ServeFault.TheVariants as served
 use Rattle.gateway_run.specs.declared.fault.RunFault.{RunFault}
-use Rattle.gateway_run.specs.declared.fault.RunFault.TheVariants.{LinkUp, NoDay, NoMemory, NoThread, OtherDay}
+use Rattle.gateway_run.specs.declared.fault.RunFault.TheVariants.{Journal, LinkUp, NoDay, NoMemory, NoThread}
+use Rattle.gateway_run.specs.declared.fault.RunFault.TheVariants.{OtherDay, TooLarge, Unread}
 
 abbrev pub run_fault : ServeFault → RunFault
 run_fault served.NoMemory = NoMemory
@@ -14,5 +15,8 @@ abbrev pub status_of : RunFault → ℕ
 status_of NoMemory = 1
 status_of NoThread = 1
 status_of (OtherDay place) = 2
+status_of Unread = 1
+status_of (Journal fault) = 1
+status_of TooLarge = 1
 status_of LinkUp = 1
 status_of NoDay = 1

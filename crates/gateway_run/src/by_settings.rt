@@ -1,9 +1,8 @@
 //! A gateway by its settings file.
 
 ghost use Rattle.std.specs.Prelude.{IfOk};
-ghost use Rattle.gateway_run.specs.Told.{NobodyIsUp};
 
-use crate::day::{Day, with_nobody_up};
+use crate::day::Day;
 use crate::day_journal::DayJournal;
 use crate::ends::{LinkRules, RunPlan};
 use crate::fault::RunFault;
@@ -61,13 +60,12 @@ pub fn end_stopped<R>(
 ) -> Result<Day, RunFault>
 where
     R: Threads + Wait + Sync + Clock + Eprint + Net<Listener = TcpListener, Stream = TcpStream>,
-    ensures { IfOk result NobodyIsUp }
 {
     let SettingsFile { settings, .. } = file;
     let is_over = AtomicBool::new(true);
     let plan = plan_of(rt, alloc, &[], &[], 0, &is_over)?;
     let board = StatusBoard::new();
-    let day = run_shown(
+    run_shown(
         rt,
         alloc,
         hasher,
@@ -76,8 +74,7 @@ where
         plan,
         &is_over,
         &board,
-    )?;
-    with_nobody_up(alloc, day)
+    )
 }
 
 /// The openers of a gateway: of its clients' links, and of its ports'.

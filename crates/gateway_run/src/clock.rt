@@ -138,9 +138,7 @@ impl<'a, K: DeskName, R: Wait + time::Clock + Eprint> Watch<'a, K, R> {
             self.is_over.store(true, Ordering::SeqCst);
         }
         self.look();
-        if !self.is_over.load(Ordering::SeqCst) {
-            self.shared.drop_older(self.rt);
-        }
+        self.shared.drop_older(self.rt);
     }
 
     /// Puts how all stand onto the board, where a second has passed since it last was, and has it told of orders that

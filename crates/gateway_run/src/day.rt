@@ -1,23 +1,33 @@
 //! A day that is over, and its audit as it is printed.
 
-ghost use Rattle.std.specs.Prelude.{◌≡◌, ◌≤◌, true, IfOk, MatchOption};
+ghost use Rattle.std.specs.Prelude.{◌≡◌, ◌≤◌, [], true, IfOk, OnOk, MatchOption};
+ghost use Rattle.std.specs.Io.KnownBytes.{Appends};
+ghost use Rattle.gate_law.specs.Settings as settings;
+ghost use Rattle.gate_law.specs.Events as law;
+ghost use Rattle.audit_lines.specs.Lines.{shown_audit};
+ghost use Rattle.audit_lines.specs.gate_audit.Auditing.{IsAuditing};
 ghost use Rattle.gate_law.specs.Holds.{Holds};
-ghost use Rattle.audit_lines.specs.gate_audit.gate_journal.Kept.{turns};
+ghost use Rattle.audit_lines.specs.gate_audit.gate_journal.Kept.{kept_in, turns, turns_onto};
+ghost use Rattle.journal_file.specs.Said.{Says};
+ghost use Rattle.journal_file.specs.declared.ending.Ending.TheVariants.{Over};
 ghost use Rattle.gateway_run.specs.Faults.{status_of};
-ghost use Rattle.gateway_run.specs.Told.{AuditIsShown, AuditIsTold, AuditIsToldOf, IsFileRead, IsFileSaying};
-ghost use Rattle.gateway_run.specs.Told.{NobodyIsUp};
+ghost use Rattle.same_days.specs.Same.{IsSameDay};
+ghost use Rattle.open_links.specs.Links.{open_behind, open_in};
+ghost use Rattle.gateway_run.specs.Told.{AuditIsTold, AuditIsToldOf, FileHas, IsFileRead, IsFileSaying, IsFoundOf};
 
 use crate::fault::RunFault;
-use audit_lines::{History, ReadingFault, Settings, audit, write_audit};
+use audit_lines::{History, OrderPair, ReadingFault, Settings, audit, write_audit};
 use desk_gates::{Closed, HostFile};
-use gate_journal::{GrowingHistory, RecentPages};
+use gate_audit::DayAudit;
+use gate_journal::{GrowingHistory, TurnPages};
 use gate_serving::LinkFault;
 use journal_days::next_number;
-use journal_file::{DayFile, Ending, FileFault, PageFault, read_file};
-use open_links::follow;
+use journal_file::{DayFile, DayReader, Ending, FileFault, NextTurns, PageFault, read_file};
+use noted_bytes::Noted;
+use open_links::{OpenLink, follow};
 use same_days::first_other;
 use std::alloc::{AllocError, Global};
-use std::io::Write;
+use std::io::{Read, Write};
 use std::marker::Model;
 use turn_log::TurnLog;
 
@@ -64,13 +74,16 @@ impl Model for Day {
         × (d.is_lost ≡ false → IsEnded (kept_of d.history) d.journal) };
 }
 
-/// A day that is over, as it was read again: the history of which its audit is taken, and whether its journal's file
-/// has it, and its end.
+/// The audit of a day that is over: each order that was accepted by both of its accounts; the links that are up at its
+/// end; and whether its journal's file has the day, and its end, of a day that has one. Contracts see what was read of
+/// the file, too.
 #[derive(Drop)]
-pub struct ReadDay {
-    pub history: History,
+pub struct AuditedDay {
     pub settings: Settings,
+    pub pairs: Vec<OrderPair>,
+    pub links: Vec<OpenLink>,
     pub has_day: bool,
+    pub read: Noted,
 }
 
 impl Day {
@@ -78,7 +91,7 @@ impl Day {
     ghost use Rattle.gate_law.specs.Holds.{Holds};
     ghost use Rattle.audit_lines.specs.gate_audit.gate_journal.Kept.{turns};
     ghost use Rattle.desk_gates.specs.desk.Ahead.{IsEnded};
-    ghost use Rattle.gateway_run.specs.Told.{IsFileSaying, IsSeen};
+    ghost use Rattle.gateway_run.specs.Told.{IsFileAudited, IsFoundOf, IsSeen};
 
     /// The day of a desk that was closed, with the first fault of a link. Takes no memory.
     pub(crate) fn of(closed: Closed, fault: Option<LinkFault>) -> Day
@@ -133,74 +146,111 @@ impl Day {
         self.fault
     }
 
-    /// The day as its journal's file says it, which was read again: where its pages left memory the history is the
-    /// file's, of a journal that was lost so far as that has it.
-    ///
-    /// `NoDay` where the pages left memory and the bytes are no day's file; `NoMemory`.
-    pub fn read_again(self, alloc: Global, file: &[u8]) -> Result<ReadDay, RunFault>
-        ensures settings { IfOk result (λ read. read.settings ≡ self.settings) }
-        ensures has { IfOk result (λ read. read.has_day ≡ true → IsFileSaying (turns read.history) file.now) }
-        ensures memory { IfOk result (λ read. self.is_whole ≡ true → read.history ≡ self.kept) }
-        ensures file { IfOk result (λ read. self.is_lost ≡ false → IsSeen self.journal file.now
-            → turns read.history ≡ turns self.kept) }
+    /// Its audit, of a day whose history is in memory. `NoDay` where it isn't.
+    pub fn audited(self, alloc: Global) -> Result<AuditedDay, RunFault>
+        ensures settings { IfOk result (λ day. day.settings ≡ self.settings) }
+        ensures found { IfOk result (λ day. IsFoundOf self.settings self.kept day.pairs.items day.links.items) }
     {
         let Day {
             history,
             settings,
             ..
         } = self;
+        let DayHistory::Whole(history) = history else {
+            return Err(RunFault::NoDay);
+        };
+        let links = links_of(alloc, &history)?;
+        let pairs = audit(alloc, &history, &settings)?;
+        Ok(AuditedDay {
+            settings,
+            pairs,
+            links,
+            has_day: true,
+            read: Noted::new(),
+        })
+    }
+
+    /// Its audit, once its journal's file was read again: where pages of the history left memory the audit is of what
+    /// the file has, page by page, of a journal that was lost so far as that has it.
+    ///
+    /// `NoDay` where pages left memory and the file is no day's, or can't be read.
+    pub fn audited_by<R: Read>(self, alloc: Global, input: &mut R) -> Result<AuditedDay, RunFault>
+        ensures settings { IfOk result (λ day. day.settings ≡ self.settings) }
+        ensures has { IfOk result (λ day. day.has_day ≡ true
+            → IsFileAudited self.settings day.read.bytes day.pairs.items day.links.items) }
+        ensures memory { IfOk result (λ day. self.is_whole ≡ true
+            → IsFoundOf self.settings self.kept day.pairs.items day.links.items) }
+        ensures file { IfOk result (λ day. self.is_lost ≡ false → IsSeen self.journal day.read.bytes
+            → IsFoundOf self.settings self.kept day.pairs.items day.links.items) }
+    {
+        let Day {
+            history,
+            settings,
+            journal,
+            ..
+        } = self;
+        let _ = size_of(&journal);
         match history {
-            DayHistory::Whole(history) => {
-                let has_day = has_day(alloc, &history, file)?;
-                Ok(ReadDay {
-                    history,
-                    settings,
-                    has_day,
-                })
-            }
-            DayHistory::Written(history) => {
-                let (read, has_day) = read_written(alloc, &history, file)?;
-                Ok(ReadDay {
-                    history: read,
-                    settings,
-                    has_day,
-                })
-            }
+            DayHistory::Whole(history) => audit_whole(alloc, history, settings, input),
+            DayHistory::Written(history) => audit_written(alloc, history, settings, input),
         }
     }
 }
 
-/// The same day, where no link is up at its end; else `LinkUp`.
-pub(crate) fn with_nobody_up(alloc: Global, day: Day) -> Result<Day, RunFault>
-    ensures same { IfOk result (λ same. same ≡ day) }
-    ensures nobody { IfOk result NobodyIsUp }
+/// The links that are up behind a history: those that came and haven't gone.
+fn links_of(alloc: Global, history: &History) -> Result<Vec<OpenLink>, AllocError>
+    ensures { IfOk result (λ links. links.items ≡ open_in history.now.events) }
 {
-    if is_nobody_up(alloc, &day)? {
-        Ok(day)
-    } else {
-        Err(RunFault::LinkUp)
-    }
-}
-
-/// Whether no link is up at the end of a day: each that came has gone. `NoDay` where its pages left memory.
-fn is_nobody_up(alloc: Global, day: &Day) -> Result<bool, RunFault>
-    ensures { IfOk result (λ is. is ≡ true → NobodyIsUp day.now) }
-{
-    let Some(history) = day.history() else {
-        return Err(RunFault::NoDay);
-    };
     let mut links = Vec::new(alloc);
     let mut left = history.turns();
     while let Some((event, _, behind)) = left.split_first(alloc)? {
         follow(&mut links, &event)?;
         left = behind;
     }
-    Ok(links.is_empty())
+    Ok(links)
+}
+
+/// How many bytes the file of a journal has: fewer than 2^64. Takes no memory.
+fn size_of(journal: &Option<TurnLog<HostFile>>) -> u64
+    ensures { FileHas journal.now result }
+{
+    match journal {
+        Some(log) => log.file().size(),
+        None => 0,
+    }
+}
+
+/// The audit of a history that is in memory, and whether a journal's file has just it, and its end.
+fn audit_whole<R: Read>(
+    alloc: Global,
+    history: History,
+    settings: Settings,
+    input: &mut R,
+) -> Result<AuditedDay, RunFault>
+    ensures settings { IfOk result (λ day. day.settings ≡ settings) }
+    ensures found { IfOk result (λ day. IsFoundOf settings history day.pairs.items day.links.items) }
+    ensures has { IfOk result (λ day. day.has_day ≡ true → IsFileSaying history day.read.bytes) }
+{
+    let mut file = Vec::new(alloc);
+    let is_read = input.read_to_end(&mut file).is_ok();
+    let mut read = Noted::new();
+    read.note(&file);
+    let has_day = is_read && has_day(alloc, &history, &file)?;
+    drop(file);
+    let links = links_of(alloc, &history)?;
+    let pairs = audit(alloc, &history, &settings)?;
+    Ok(AuditedDay {
+        settings,
+        pairs,
+        links,
+        has_day,
+        read,
+    })
 }
 
 /// Whether a journal's file, as it was read again, has just this history, and its end.
 fn has_day(alloc: Global, history: &History, file: &[u8]) -> Result<bool, AllocError>
-    ensures { IfOk result (λ has. has ≡ true → IsFileSaying (turns history.now) file.now) }
+    ensures { IfOk result (λ has. has ≡ true → IsFileSaying history.now file.now) }
 {
     match read_file(alloc, file) {
         Ok(DayFile { day: read, ending }) => match ending {
@@ -214,7 +264,7 @@ fn has_day(alloc: Global, history: &History, file: &[u8]) -> Result<bool, AllocE
 
 /// Whether two histories have the same events with the same batches.
 fn is_same(read: &History, day: &History) -> bool
-    ensures { result ≡ true → turns read.now ≡ turns day.now }
+    ensures { result ≡ true → IsSameDay read.now day.now }
 {
     match first_other(read.pages(), day.pages()) {
         None => true,
@@ -222,101 +272,152 @@ fn is_same(read: &History, day: &History) -> bool
     }
 }
 
-/// The history that a journal's file has, and whether that is as long as this one, and the day over.
-fn read_written(
+/// The audit of what a journal's file has, read page by page, and whether that is as long as this history, and the day
+/// over.
+fn audit_written<R: Read>(
     alloc: Global,
-    history: &GrowingHistory,
-    file: &[u8],
-) -> Result<(History, bool), RunFault>
-    ensures { IfOk result (λ read. IsFileRead history.now file.now read.0 read.1) }
+    history: GrowingHistory,
+    settings: Settings,
+    input: &mut R,
+) -> Result<AuditedDay, RunFault>
+    ensures settings { IfOk result (λ day. day.settings ≡ settings) }
+    ensures read { IfOk result (λ day. IsFileRead settings history day.read.bytes day.pairs.items day.links.items
+        day.has_day) }
 {
-    let DayFile { day, ending } = match read_file(alloc, file) {
-        Ok(read) => read,
-        Err((_, FileFault::Page(PageFault::NoMemory))) => return Err(RunFault::NoMemory),
-        Err(_) => return Err(RunFault::NoDay),
-    };
-    let RecentPages { pages, .. } = history.recent();
-    let is_all = next_number(day.pages()) == next_number(pages);
-    match ending {
-        Ending::Over => Ok((day, is_all)),
-        Ending::GoesOn | Ending::Torn(_) => Ok((day, false)),
-    }
+    let mut reader = DayReader::new(alloc);
+    let mut audit = DayAudit::new(alloc, &settings)?;
+    let mut links = Vec::new(alloc);
+    let (ending, number) = take_file(alloc, input, &mut reader, &mut audit, &mut links)?;
+    let is_all = number == next_number(history.recent().pages);
+    let pairs = audit.pairs(alloc, &settings)?;
+    Ok(AuditedDay {
+        settings,
+        pairs,
+        links,
+        has_day: is_all && is_over(ending),
+        read: reader.into_read(),
+    })
 }
 
-/// Writes the audit of a history to `output`: a line for each order that was accepted, and one for how many there are
-/// and how many agree.
-///
-/// Answers the status that a program ends with which does so: 0 where both accounts of each order agree; else 1: where
-/// those of an order don't, where memory runs out, with `out of memory` on `faults`, where a write fails, with `read or
-/// write failed`, and where a number of an account is larger than its integer holds, with `an order's account is too
-/// large`.
-fn audit_history<W: Write, F: Write>(
-    alloc: Global,
-    history: &History,
-    settings: &Settings,
-    output: &mut W,
-    faults: &mut F,
-) -> u8
-    ensures status { result ≤ 1 }
-    ensures shown { result ≡ 0
-        → AuditIsShown settings.now (turns history.now) (W.contents output.old) (W.contents output.new) }
-    ensures run { Holds settings.now (turns history.now) → result ≡ 0
-        → AuditIsToldOf settings.now (turns history.now) (W.contents output.old) (W.contents output.new) }
+/// Whether a file ends so whose day is over.
+fn is_over(ending: Ending) -> bool
+    ensures { result ≡ true → ending ≡ Over }
 {
-    match audit(alloc, history, settings) {
-        Ok(pairs) => write_audit(alloc, pairs.as_slice(), output, faults),
-        Err(ReadingFault::NoMemory) => tell(RunFault::NoMemory, faults),
-        Err(ReadingFault::TooLarge) => {
-            let _ = writeln!(faults, "an order's account is too large");
-            1
+    matches!(ending, Ending::Over)
+}
+
+/// Takes the turns of a day's file, and gives how it ends, and the number of the page behind its last one. The links
+/// that are up behind it are in `links`, where none was.
+fn take_file<R: Read>(
+    alloc: Global,
+    input: &mut R,
+    reader: &mut DayReader,
+    audit: &mut DayAudit,
+    links: &mut Vec<OpenLink>,
+) -> Result<(Ending, u64), RunFault>
+    requires reader { reader.old.told ≡ [] }
+    requires links { links.old.items ≡ [] }
+    ensures says { IfOk result (λ end. Says reader.new.read (kept_in reader.new.told) end.0) }
+    ensures audit { OnOk result ((s : settings.Settings) → IsAuditing s [] audit.old
+        → IsAuditing s (turns (kept_in reader.new.told)) audit.new) }
+    ensures links { OnOk result (links.new.items ≡ open_in (kept_in reader.new.told).events) }
+{
+    let mut number = 0u64;
+    for _ in 0..u64::MAX {
+        match reader.next(alloc, input)? {
+            NextTurns::Turns(part) => {
+                take_part(alloc, &part, audit, links)?;
+                number = next_number(part.pages());
+            }
+            NextTurns::End(ending) => return Ok((ending, number)),
         }
     }
+    Err(RunFault::NoDay)
 }
 
-/// Writes the audit of a day whose history is in memory, as `end_day` does. Status 1 also where it isn't, with
-/// `gateway: journal: it doesn't have the day` on `faults`.
-pub fn audit_day<W: Write, F: Write>(alloc: Global, day: &Day, output: &mut W, faults: &mut F) -> u8
-    ensures status { result ≤ 1 }
-    ensures audited { result ≡ 0
-        → AuditIsToldOf day.now.settings (turns day.now.kept) (W.contents output.old) (W.contents output.new) }
-    ensures told { result ≡ 0 → AuditIsTold (W.contents output.old) (W.contents output.new) }
+/// Takes the turns of a part of a day.
+fn take_part(
+    alloc: Global,
+    part: &TurnPages,
+    audit: &mut DayAudit,
+    links: &mut Vec<OpenLink>,
+) -> Result<(), ReadingFault>
+    ensures audit { OnOk result ((h : law.History) (s : settings.Settings) → IsAuditing s h audit.old
+        → IsAuditing s (turns_onto part.now.events part.now.batches h) audit.new) }
+    ensures links { OnOk result (links.new.items ≡ open_behind links.old.items part.now.events) }
 {
-    match day.history() {
-        Some(history) => audit_history(alloc, history, day.settings(), output, faults),
-        None => tell(RunFault::NoDay, faults),
+    let mut ahead = part.turns();
+    while let Some((event, batch, behind)) = ahead.split_first(alloc)? {
+        follow(links, &event)?;
+        audit.take(alloc, &event, &batch)?;
+        ahead = behind;
     }
+    Ok(())
 }
 
-/// Ends a day that was written ahead, once its journal's file was read again: writes its audit to `output`, a line for
-/// each order that was accepted, and one for how many there are and how many agree.
+/// Ends a day, once it was audited: writes the audit to `output`, a line for each order that was accepted, and one for
+/// how many there are and how many agree.
 ///
-/// Answers the status that a program ends with which does so: 0 where the file has the day and both accounts of each
-/// order agree; else 1: where the file hasn't, with `gateway: journal: it doesn't have the day` on `faults`, where the
-/// accounts of an order don't agree, where memory runs out, with `out of memory`, where a write fails, with `read or
-/// write failed`, and where a number of an account is larger than its integer holds, with `an order's account is too
-/// large`.
+/// Answers the status that a program ends with which does so: 0 where nothing of the day is missing in its journal and
+/// both accounts of each order agree; else 1: where its file doesn't have the day, with `gateway: journal: it doesn't
+/// have the day` on `faults`, where the accounts of an order don't agree, where memory runs out, with `out of memory`,
+/// and where a write fails, with `read or write failed`.
 pub fn end_day<W: Write, F: Write>(
     alloc: Global,
-    day: &ReadDay,
+    day: &AuditedDay,
     output: &mut W,
     faults: &mut F,
 ) -> u8
     ensures status { result ≤ 1 }
     ensures kept { result ≡ 0 → day.now.has_day ≡ true }
     ensures shown { result ≡ 0
-        → AuditIsShown day.now.settings (turns day.now.history) (W.contents output.old) (W.contents output.new) }
-    ensures run { Holds day.now.settings (turns day.now.history) → result ≡ 0
-        → AuditIsToldOf day.now.settings (turns day.now.history) (W.contents output.old) (W.contents output.new) }
+        → Appends (W.contents output.old) (W.contents output.new) (shown_audit day.now.pairs.items) }
 {
-    let audited = audit_history(alloc, &day.history, &day.settings, output, faults);
+    let audited = write_audit(alloc, day.pairs.as_slice(), output, faults);
     if day.has_day {
         return audited;
     }
     tell(RunFault::NoDay, faults)
 }
 
-/// Tells why a gateway could not run to its end, and answers its program's status: 2 where a journal's day isn't what
-/// these settings give, else 1.
+/// Ends a day that stopped, and that nobody was served on since, as `end_day` does. Status 1 also where a link is up at
+/// its end, with `gateway: journal: a link is up at the day's end` on `faults`.
+pub fn end_stopped_day<W: Write, F: Write>(
+    alloc: Global,
+    day: &AuditedDay,
+    output: &mut W,
+    faults: &mut F,
+) -> u8
+    ensures status { result ≤ 1 }
+    ensures kept { result ≡ 0 → day.now.has_day ≡ true }
+    ensures nobody { result ≡ 0 → day.now.links.items ≡ [] }
+    ensures shown { result ≡ 0
+        → Appends (W.contents output.old) (W.contents output.new) (shown_audit day.now.pairs.items) }
+{
+    let ended = end_day(alloc, day, output, faults);
+    if day.links.is_empty() {
+        return ended;
+    }
+    tell(RunFault::LinkUp, faults)
+}
+
+/// Writes the audit of a day whose history is in memory, as `end_day` does. Status 1 also where it isn't, with
+/// `gateway: journal: it doesn't have the day` on `faults`, and where a number of an account is larger than its integer
+/// holds, with `an order's account is too large`.
+pub fn audit_day<W: Write, F: Write>(alloc: Global, day: Day, output: &mut W, faults: &mut F) -> u8
+    ensures status { result ≤ 1 }
+    ensures audited { result ≡ 0
+        → AuditIsToldOf day.settings (turns day.kept) (W.contents output.old) (W.contents output.new) }
+    ensures told { result ≡ 0 → AuditIsTold (W.contents output.old) (W.contents output.new) }
+{
+    match day.audited(alloc) {
+        Ok(audited) => end_day(alloc, &audited, output, faults),
+        Err(fault) => tell(fault, faults).min(1),
+    }
+}
+
+/// Tells why a gateway could not run to its end, and answers its program's status: 2 where a journal's day isn't that
+/// of these settings, else 1.
 pub fn tell<F: Write>(fault: RunFault, faults: &mut F) -> u8
     ensures { result ≡ status_of fault }
 {
@@ -327,6 +428,9 @@ pub fn tell<F: Write>(fault: RunFault, faults: &mut F) -> u8
             faults,
             "gateway: journal: event {place} isn't what these settings give"
         ),
+        RunFault::Unread => writeln!(faults, "gateway: journal: it can't be read"),
+        RunFault::Journal(fault) => writeln!(faults, "gateway: journal: {fault}"),
+        RunFault::TooLarge => writeln!(faults, "an order's account is too large"),
         RunFault::LinkUp => writeln!(faults, "gateway: journal: a link is up at the day's end"),
         RunFault::NoDay => writeln!(faults, "gateway: journal: it doesn't have the day"),
     };

@@ -1,41 +1,57 @@
 //! Where a day is written ahead, and what is there of it.
 
-ghost use Rattle.std.specs.Prelude.{◌≡◌, [], IfOk, drop, true};
-ghost use Rattle.journal_pages.specs.Page.{version_named};
-ghost use Rattle.journal_pages.specs.declared.version.Version.TheVariants.{Two};
-ghost use Rattle.gateway_run.specs.Stopped.{IsStopped};
+ghost use Rattle.std.specs.Prelude.{◌≡◌, [], IfOk};
+ghost use Rattle.host_log.specs.Whole.{HasJust};
+ghost use Rattle.gateway_run.specs.Stopped.{EndsTorn, IsStopped};
 
-use crate::sync_timer::SyncTimer;
-use audit_lines::History;
-use desk_gates::HostFile;
-use host_log::{LaterSync, OpenFault, StoppedLog};
-use journal_file::{DayFile, Ending, FileFault, PageFault, read_file};
-use journal_pages::Version;
+use desk_gates::{HostFile, StoppedLog};
+use host_log::OpenFault;
+use journal_file::{DayReader, Ending, FileFault, NextTurns, ReadFault};
 use std::alloc::Global;
-use std::marker::Model;
+use std::io::Read;
 use thiserror::Error;
 
-/// Where a day is written ahead, and what is there of it: nothing, of a day that begins.
-///
-/// Its type keeps that the file has just this day, all of it durable.
+/// Where a day is written ahead, and when that is synced.
 #[derive(Drop)]
 pub struct DayJournal {
-    pub(crate) file: HostFile,
-    pub(crate) day: History,
-    /// What has the file synced, where the file leaves that for later; without it nothing does.
-    pub(crate) syncs: Option<SyncTimer<LaterSync>>,
+    pub(crate) file: JournalFile,
+    pub(crate) syncs: Syncs,
 }
 
-impl Model for DayJournal {
-    ghost use Rattle.audit_lines.specs.gate_audit.gate_journal.Kept.{Kept};
-    ghost use Rattle.host_log.specs.Seen.{host_may_leave, host_seen};
-    ghost use Rattle.turn_log.specs.Kept.{HasAll};
+/// A journal's file.
+#[derive(Drop)]
+pub(crate) enum JournalFile {
+    /// It was made, and has nothing.
+    New(NewFile),
+    /// It was there: the day goes on behind what it has.
+    Stopped(StoppedLog),
+}
 
-    ghost Value = { Kept };
+/// A file that has nothing. Its type keeps that.
+#[derive(Drop)]
+pub(crate) struct NewFile {
+    pub(crate) file: HostFile,
+    ghost nothing: { HasJust [] file },
+}
 
-    ghost view = { λ d. d.day };
+/// When a journal's file is synced.
+#[derive(Clone, Copy, Debug, PartialEq, Eq)]
+pub(crate) enum Syncs {
+    /// Before anybody is told.
+    Each,
+    /// Each so many milliseconds.
+    Every(u64),
+    /// By the system alone.
+    Never,
+}
 
-    ghost invariant = { λ d. HasAll host_seen host_may_leave d.day.pages d.file };
+/// A day that stopped: how many events its file has, and how many bytes of a write that was cut short stand behind
+/// them, of which nobody was told anything.
+#[derive(Drop)]
+pub struct StoppedDay {
+    pub journal: DayJournal,
+    pub events: u64,
+    pub torn: u64,
 }
 
 /// Why a day that stopped can't go on.
@@ -48,7 +64,7 @@ pub enum StoppedFault {
     /// wrong, from 0, and what.
     #[error("page {0}: {1}")]
     Damaged(u32, FileFault),
-    /// What was cut short can't be cut off, or the rest not be made durable.
+    /// It can't be read.
     #[error("{0}")]
     File(OpenFault),
     /// Memory ran out.
@@ -56,99 +72,100 @@ pub enum StoppedFault {
     NoMemory,
 }
 
+impl From<ReadFault> for StoppedFault {
+    fn from(fault: ReadFault) -> StoppedFault {
+        match fault {
+            ReadFault::NoMemory => StoppedFault::NoMemory,
+            ReadFault::Read(_) => StoppedFault::File(OpenFault::Failed),
+            ReadFault::NoFile(page, fault) => StoppedFault::Damaged(page, fault),
+        }
+    }
+}
+
+impl From<OpenFault> for StoppedFault {
+    fn from(fault: OpenFault) -> StoppedFault {
+        match fault {
+            OpenFault::NoMemory => StoppedFault::NoMemory,
+            fault => StoppedFault::File(fault),
+        }
+    }
+}
+
 impl DayJournal {
-    ghost use Rattle.std.specs.Prelude.{◌≡◌, IfOk};
+    ghost use Rattle.std.specs.Prelude.{[], ℕ, List, IfOk};
     ghost use Rattle.gateway_run.specs.Stopped.{IsStopped};
     ghost use Rattle.host_log.specs.Whole.{HasJust};
 
-    /// Of a day that begins, in a file that was made. Takes no memory.
-    pub fn begun(alloc: Global, file: HostFile) -> DayJournal
+    /// Of a day that begins, in a file that was made.
+    pub fn begun(file: HostFile) -> DayJournal
         requires { HasJust [] file }
     {
         DayJournal {
-            file,
-            day: History::new(alloc),
-            syncs: None,
+            file: JournalFile::New(NewFile { file }),
+            syncs: Syncs::Each,
         }
     }
 
-    /// Of a day that stopped, behind the whole pages of its file; and how many bytes behind them are cut off: those of
-    /// a write that was cut short, of which nobody was told anything.
-    ///
-    /// `Over`, `Damaged` and `NoMemory` leave the file as it was.
-    pub fn of_stopped(
-        alloc: Global,
-        stopped: StoppedLog,
-    ) -> Result<(DayJournal, usize), StoppedFault>
-        ensures { IfOk result (λ read. IsStopped stopped.bytes.items read.0 read.1) }
+    /// Of a day that stopped, once its file was read through, page by page: it says a day that goes on. Nothing of it
+    /// is changed.
+    pub fn of_stopped(alloc: Global, stopped: StoppedLog) -> Result<StoppedDay, StoppedFault>
+        ensures { IfOk result (λ day. (file : List ℕ) × IsStopped file day.events day.torn) }
     {
-        let (day, torn) = read_stopped(alloc, stopped.bytes())?;
-        let whole = stopped.bytes().len() - torn;
-        match stopped.go_on(whole) {
-            Ok(file) => Ok((
-                DayJournal {
-                    file,
-                    day,
-                    syncs: None,
-                },
-                torn,
-            )),
-            Err(fault) => Err(StoppedFault::File(fault)),
-        }
-    }
-
-    /// The same, whose file leaves its syncs for later (`HostFile::synced_later`): each so many milliseconds, or never.
-    pub fn synced_later(
-        self,
-        alloc: Global,
-        milliseconds: Option<u64>,
-    ) -> Result<DayJournal, OpenFault>
-        ensures { IfOk result (λ same. same ≡ self) }
-    {
-        let DayJournal { file, day, .. } = self;
-        let (file, later) = file.synced_later(alloc)?;
-        let syncs = match milliseconds {
-            Some(every) => Some(SyncTimer::each(later, every)),
-            None => None,
+        let mut stopped = stopped;
+        let mut reader = DayReader::new(alloc);
+        let (events, torn) = count_events(alloc, stopped.file(), &mut reader)?;
+        stopped.rewind()?;
+        let journal = DayJournal {
+            file: JournalFile::Stopped(stopped),
+            syncs: Syncs::Each,
         };
-        Ok(DayJournal { file, day, syncs })
+        Ok(StoppedDay {
+            journal,
+            events,
+            torn,
+        })
     }
 
-    /// The day so far.
-    pub fn day(&self) -> &History
-        ensures { result.now ≡ self.now }
-    {
-        &self.day
+    /// The same, whose file is synced each so many milliseconds, or left to the system (`HostFile::synced_later`).
+    pub fn synced_later(self, milliseconds: Option<u64>) -> DayJournal {
+        let syncs = match milliseconds {
+            Some(every) => Syncs::Every(every),
+            None => Syncs::Never,
+        };
+        DayJournal {
+            file: self.file,
+            syncs,
+        }
     }
 }
 
-/// The day that the whole pages of a file are that stopped, and how many bytes of a write that was cut short stand
-/// behind them.
-fn read_stopped(alloc: Global, file: &[u8]) -> Result<(History, usize), StoppedFault>
-    ensures { IfOk result (λ read. IsStopped file.now read.0 read.1) }
+/// How many events a day's file has that goes on, once it was read to its end; and how many bytes of a write that was
+/// cut short stand behind them.
+fn count_events<R: Read>(
+    alloc: Global,
+    input: &mut R,
+    reader: &mut DayReader,
+) -> Result<(u64, u64), StoppedFault>
+    requires { reader.old.told ≡ [] }
+    ensures { IfOk result (λ counts. IsStopped reader.new.read counts.0 counts.1) }
 {
-    let DayFile { day, ending } = match read_file(alloc, file) {
-        Ok(read) => read,
-        Err((_, FileFault::Page(PageFault::NoMemory))) => return Err(StoppedFault::NoMemory),
-        Err((page, fault)) => return Err(StoppedFault::Damaged(page, fault)),
-    };
-    let torn = match ending {
-        Ending::GoesOn => 0,
-        Ending::Torn(torn) => torn,
-        Ending::Over => return Err(StoppedFault::Over),
-    };
-    if torn == file.len() || is_written_form(file) {
-        return Ok((day, torn));
+    let mut events = 0u64;
+    for _ in 0..u64::MAX {
+        match reader.next(alloc, input)? {
+            NextTurns::Turns(part) => events = events.wrapping_add(part.count()),
+            NextTurns::End(ending) => return Ok((events, torn_of(ending)?)),
+        }
     }
-    Err(StoppedFault::Damaged(0, FileFault::Page(PageFault::Head)))
+    Err(StoppedFault::File(OpenFault::Failed))
 }
 
-/// Whether the page behind a length and a sum is one of version 2.
-fn is_written_form(file: &[u8]) -> bool
-    ensures { result ≡ true → version_named (drop 16 file.now) ≡ Two }
+/// How many bytes of a write that was cut short stand at the end of the file of a day that goes on.
+fn torn_of(ending: Ending) -> Result<u64, StoppedFault>
+    ensures { IfOk result (EndsTorn ending) }
 {
-    match file.get(16..) {
-        Some(page) => matches!(Version::named(page), Version::Two),
-        None => false,
+    match ending {
+        Ending::GoesOn => Ok(0),
+        Ending::Torn(torn) => Ok(torn as u64),
+        Ending::Over => Err(StoppedFault::Over),
     }
 }

@@ -4,7 +4,11 @@ ghost use Rattle.std.specs.Prelude.{◌≡◌};
 ghost use Rattle.gateway_run.specs.Faults.{run_fault};
 ghost use Rattle.gateway_run.specs.declared.fault.RunFault.TheVariants.{NoMemory};
 
+use audit_lines::ReadingFault;
+use desk_gates::ReplayFault;
 use gate_serving::ServeFault;
+use host_log::OpenFault;
+use journal_file::ReadFault;
 use std::alloc::AllocError;
 
 /// Why a gateway could not run to its end.
@@ -17,6 +21,12 @@ pub enum RunFault {
     /// The batch of the event at this place of the journal, from 0, isn't the one that these settings, or this program,
     /// give.
     OtherDay(u64),
+    /// The journal's file can't be read.
+    Unread,
+    /// The journal's file can't be cut, or not be made durable.
+    Journal(OpenFault),
+    /// A number of an order's account is larger than its integer holds.
+    TooLarge,
     /// A link is up at the end of a day that nobody serves.
     LinkUp,
     /// The day isn't in memory, and its journal's file doesn't have it.
@@ -28,6 +38,44 @@ impl From<AllocError> for RunFault {
 
     fn from(_: AllocError) -> RunFault {
         RunFault::NoMemory
+    }
+}
+
+impl From<OpenFault> for RunFault {
+    fn from(fault: OpenFault) -> RunFault {
+        match fault {
+            OpenFault::NoMemory => RunFault::NoMemory,
+            fault => RunFault::Journal(fault),
+        }
+    }
+}
+
+impl From<ReplayFault> for RunFault {
+    fn from(fault: ReplayFault) -> RunFault {
+        match fault {
+            ReplayFault::OtherDay(place) => RunFault::OtherDay(place),
+            ReplayFault::Unread => RunFault::Unread,
+            ReplayFault::File(fault) => RunFault::Journal(fault),
+            ReplayFault::NoMemory => RunFault::NoMemory,
+        }
+    }
+}
+
+impl From<ReadingFault> for RunFault {
+    fn from(fault: ReadingFault) -> RunFault {
+        match fault {
+            ReadingFault::NoMemory => RunFault::NoMemory,
+            ReadingFault::TooLarge => RunFault::TooLarge,
+        }
+    }
+}
+
+impl From<ReadFault> for RunFault {
+    fn from(fault: ReadFault) -> RunFault {
+        match fault {
+            ReadFault::NoMemory => RunFault::NoMemory,
+            ReadFault::NoFile(..) | ReadFault::Read(_) => RunFault::NoDay,
+        }
     }
 }
 

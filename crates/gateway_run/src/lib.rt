@@ -24,8 +24,8 @@ mod telling_gate;
 
 pub use audit_lines::{History, OrderPair, ReadingFault, Settings, audit};
 pub use by_settings::{end_stopped, run_settings};
-pub use day::{Day, ReadDay, audit_day, end_day, tell};
-pub use day_journal::{DayJournal, StoppedFault};
+pub use day::{AuditedDay, Day, audit_day, end_day, end_stopped_day, tell};
+pub use day_journal::{DayJournal, StoppedDay, StoppedFault};
 pub use ends::{LinkRules, RunPlan};
 pub use fault::RunFault;
 pub use gate_events::PortNumber;

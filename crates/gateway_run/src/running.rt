@@ -14,7 +14,7 @@ use crate::fault::RunFault;
 use crate::lines::{Count, Left, pens_of, ticks_of};
 use crate::order_watch::ports_of_clients;
 use crate::port_faults::PortLinks;
-use crate::resuming::{go_on, take_syncs};
+use crate::resuming::go_on;
 use crate::sync_timer::SyncTimer;
 use audit_lines::Settings;
 use desk_gates::{
@@ -125,9 +125,7 @@ where
     let clients = plan.clients.len().min(usize::from(count.clients)) as u32;
     let states = LinkStates::of(alloc, clients, plan.ports.len())?;
     let (shared, mut inlets, mut outlets) = open_desk::<K, RandomState>(alloc, parts)?;
-    let mut journal = journal;
-    let syncs = take_syncs(&mut journal);
-    go_on(rt, alloc, &shared, &mut inlets, &mut outlets, journal)?;
+    let syncs = go_on(rt, alloc, &shared, &mut inlets, &mut outlets, journal)?;
     let pens = pens_of::<A::Writer, K, R>(rt, alloc, &shared, outlets, plan.rules.tells_frames)?;
     let mut left = serve_desk(
         rt,

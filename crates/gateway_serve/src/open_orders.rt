@@ -2,58 +2,33 @@
 
 ghost use Rattle.std.specs.Prelude.{◌≡◌, ◌++◌, true, IfOk, OnOk};
 ghost use Rattle.std.specs.Io.KnownBytes.{Appends};
-ghost use Rattle.gateway_run.specs.Holds.{Holds};
-ghost use Rattle.gateway_run.specs.Pairs.{accepted_pairs, pairs};
-ghost use Rattle.gateway_run.specs.Kept.{turns};
 ghost use Rattle.gateway_run.specs.gate_law.Settings.{client_name};
 ghost use Rattle.gateway_serve.specs.Lines as shown;
 
 use crate::standing::{Standing, is_open, is_unanswered, standing_of};
-use audit_lines::StreamFault;
-use gateway_run::{History, OrderPair, ReadingFault, Settings, audit};
+use gateway_run::{OrderPair, Settings};
 use itoa::Buffer;
 use std::alloc::{AllocError, Global};
 use std::io::Write;
 
-/// Tells on `faults` of each order of a day's history that is open at the market, with how much of it, and of each that
+/// Tells on `faults` of each order of an audited day that is open at the market, with how much of it, and of each that
 /// the market hasn't answered, and last how many there are of either; nothing where there are none.
 ///
 /// The answer says whether all of it was told. Where memory runs out it isn't, and `faults` has `out of memory`.
 pub fn tell_open_orders<F: Write>(
     alloc: Global,
-    history: &History,
-    settings: &Settings,
-    faults: &mut F,
-) -> bool
-    ensures shown { result ≡ true → Appends (F.contents faults.old) (F.contents faults.new)
-        (shown.shown_open settings.now (pairs settings.now (turns history.now))) }
-    ensures told { Holds settings.now (turns history.now) → result ≡ true
-        → Appends (F.contents faults.old) (F.contents faults.new)
-        (shown.shown_open settings.now (accepted_pairs settings.now (turns history.now))) }
-{
-    match audit(alloc, history, settings) {
-        Ok(pairs) => tell_pairs(alloc, pairs.as_slice(), settings, faults).is_ok(),
-        Err(ReadingFault::NoMemory) => {
-            let _ = writeln!(faults, "out of memory");
-            false
-        }
-        Err(ReadingFault::TooLarge) => false,
-    }
-}
-
-/// Tells the same of pairs.
-fn tell_pairs<F: Write>(
-    alloc: Global,
     pairs: &[OrderPair],
     settings: &Settings,
     faults: &mut F,
-) -> Result<(), StreamFault>
-    ensures { OnOk result (Appends (F.contents faults.old) (F.contents faults.new)
-        (shown.shown_open settings.now pairs.now)) }
+) -> bool
+    ensures { result ≡ true → Appends (F.contents faults.old) (F.contents faults.new)
+        (shown.shown_open settings.now pairs.now) }
 {
-    let text = open_text(alloc, pairs, settings)?;
-    faults.write_all(text.as_slice())?;
-    Ok(())
+    let Ok(text) = open_text(alloc, pairs, settings) else {
+        let _ = writeln!(faults, "out of memory");
+        return false;
+    };
+    faults.write_all(text.as_slice()).is_ok()
 }
 
 /// The lines of the orders that aren't over, in the order of the pairs, and last how many there are.

@@ -1,11 +1,11 @@
-use Rattle.std.proofs.Common.{sym, ap, ◌∙◌}
+use Rattle.std.proofs.Common.{sym, subst}
 use Rattle.gate_journal.specs.Cut.{texts}
-use Rattle.gate_journal.specs.Kept.{kept_in, turns}
-use Rattle.same_days.proofs.Days.{turns-same}
+use Rattle.gate_journal.specs.Kept.{Kept, kept_in}
+use Rattle.same_days.specs.Same.{IsSameDay}
 use Rattle.gateway_run.proofs.day.is_same.Goals as goal
 
 pub returns-in-None : goal.returns-in-None
 returns-in-None c is =
-    ap turns c.pages.ensures.same
-    ∙ turns-same (kept_in (texts c.pages.result.now)) (kept_in (texts c.pages-2.result.now)) c.in-None.ensures
-    ∙ sym (ap turns c.pages-2.ensures.same)
+    subst (λ (k : Kept). IsSameDay k c.args.day.now) (sym c.pages.ensures.same)
+    (subst (λ (k : Kept). IsSameDay (kept_in (texts c.pages.result.now)) k) (sym c.pages-2.ensures.same)
+    c.in-None.ensures)

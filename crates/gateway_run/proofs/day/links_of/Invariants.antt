@@ -2,10 +2,10 @@
 use Rattle.std.proofs.Common.{◌≡◌, length}
 use Rattle.gate_journal.specs.Left.{events_left}
 use Rattle.open_links.specs.Links.{open_behind, open_in}
-use Rattle.gateway_run.proofs.day.is_nobody_up.Given as goal
+use Rattle.gateway_run.proofs.day.links_of.Given as goal
 
 abbrev pub invariant-loop-links : goal.invariant-loop-links
-invariant-loop-links l = open_behind l.links.items (events_left l.left) ≡ open_in l.day.kept.events
+invariant-loop-links l = open_behind l.links.items (events_left l.left) ≡ open_in l.history.events
 
 abbrev pub decreases-loop-links : goal.decreases-loop-links
 decreases-loop-links l = length (events_left l.left)

@@ -1,0 +1,15 @@
+use Rattle.std.proofs.Common.{◌≡◌, ◌∙◌, ◌++◌, ℕ, List, sym, ap, subst}
+use Rattle.gateway_run.specs.Told.{IsFileSaying}
+use Rattle.gateway_run.proofs.day.audit_whole.Goals.{then-is_read+in_ok-has_day, else-is_read}
+use Rattle.gateway_run.proofs.day.audit_whole.Goals as goal
+
+pub returns-clause-has : goal.returns-clause-has
+returns-clause-has g c = λ is. elim c.if-is_read.branch [
+  | then-is_read+in_ok-has_day w ↦
+      let noted : c.note.new.self.bytes ≡ c.deref.result.now =
+      c.note.ensures ∙ ap (λ (l : List ℕ). l ++ c.deref.result.now) c.new-read.ensures in
+      let file : w.deref-then-is_read.result.now ≡ c.note.new.self.bytes =
+      w.deref-then-is_read.ensures.value ∙ sym c.deref.ensures.value ∙ sym noted in
+      subst (λ (f : List ℕ). IsFileSaying c.args.history f) file (w.in_ok-has_day.ensures (sym w.has_day-is ∙ is))
+  | else-is_read w ↦ let no : ⊥ = cc in absurd no
+]
