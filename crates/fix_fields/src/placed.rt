@@ -12,6 +12,7 @@ pub(crate) const ROUND_A_VALUE: usize = 11;
 
 /// So many bytes of a text are in use: there is room for so many more behind them. `AllocError` leaves those as they
 /// were. One growth at most.
+#[inline(always)]
 pub(crate) fn reserve(text: &mut Vec<u8>, used: usize, more: usize) -> Result<(), AllocError>
     requires { used ≤ length text.old.items }
     ensures room { OnOk result (used + more ≤ length text.new.items) }
@@ -54,6 +55,7 @@ pub(crate) fn put_few(text: &mut [u8], at: usize, tag: u32, bytes: &[u8; 16], co
 }
 
 /// Writes a field with a value of one byte at a place of a text. Gives the place behind it.
+#[inline(always)]
 pub(crate) fn put_byte(text: &mut [u8], at: usize, tag: u32, value: u8) -> usize
     requires tag { IsTag tag }
     requires room { at + 12 ≤ length text.old }
@@ -68,6 +70,7 @@ pub(crate) fn put_byte(text: &mut [u8], at: usize, tag: u32, value: u8) -> usize
 
 /// Writes a field with a number in decimal at a place of a text, and over at most 19 bytes behind it. Gives the place
 /// behind it.
+#[inline(always)]
 pub(crate) fn put_number(text: &mut [u8], at: usize, tag: u32, number: u64) -> usize
     requires tag { IsTag tag }
     requires room { at + 31 ≤ length text.old }
@@ -213,6 +216,7 @@ pub(crate) fn put_field(text: &mut [u8], at: usize, tag: u32, value: &[u8]) -> u
 }
 
 /// Writes a tag and `=` at a place of a text. Gives the place behind them.
+#[inline(always)]
 fn put_tag(text: &mut [u8], at: usize, tag: u32) -> usize
     requires tag { IsTag tag }
     requires room { at + 10 ≤ length text.old }

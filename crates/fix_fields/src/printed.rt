@@ -88,6 +88,7 @@ impl PrintedFields {
     }
 
     /// Adds a value of one byte, which is not SOH. `AllocError` leaves the fields as they were. One growth at most.
+    #[inline(always)]
     pub fn push_byte(&mut self, tag: u32, value: u8) -> Result<(), AllocError>
         requires tag { IsTag tag }
         requires value { IsValue (value ∷ []) }
@@ -112,6 +113,7 @@ impl PrintedFields {
     }
 
     /// Adds a number in decimal. `AllocError` leaves the fields as they were. One growth at most.
+    #[inline(always)]
     pub fn push_number(&mut self, tag: u32, number: u64) -> Result<(), AllocError>
         requires tag { IsTag tag }
         ensures ok { OnOk result (self.new ≡ self.old ++ field tag (decimal number) ∷ []) }

@@ -17,6 +17,7 @@ use fixed_point::{fraction_digits, significant_digits};
 use std::alloc::AllocError;
 
 /// Adds a letter.
+#[inline(always)]
 pub fn push_letter(fields: &mut PrintedFields, tag: u32, letter: u8) -> Result<(), AllocError>
     requires tag { IsTag tag }
     requires letter { IsValue (letter ∷ []) }
@@ -26,6 +27,7 @@ pub fn push_letter(fields: &mut PrintedFields, tag: u32, letter: u8) -> Result<(
 }
 
 /// Adds a value of one byte.
+#[inline(always)]
 pub fn push_char(fields: &mut PrintedFields, tag: u32, value: Character) -> Result<(), AllocError>
     requires { IsTag tag }
     ensures { OnOk result (fields.new ≡ fields.old ++ slot_fields (field_slot tag (value ∷ []))) }
@@ -145,6 +147,7 @@ pub fn push_optional_id(
 }
 
 /// Adds a number in decimal.
+#[inline(always)]
 pub fn push_number(fields: &mut PrintedFields, tag: u32, number: u64) -> Result<(), AllocError>
     requires { IsTag tag }
     ensures written { OnOk result (fields.new ≡ fields.old ++ slot_fields (field_slot tag (decimal number))) }
