@@ -1,10 +1,9 @@
 -- The audit of a day that is over, by its file.
-use Rattle.std.proofs.Common.{◌≡◌, ◌<◌, ◌^◌, ◌∙◌, ℕ, Bool, true, false, List, Option, Some, None, Result, Ok, Err, length}
+use Rattle.std.proofs.Common.{◌≡◌, ◌<◌, ◌^◌, ◌∙◌, ℕ, Bool, true, false, Option, Some, None, Result, Ok, Err, length}
 use Rattle.std.proofs.Common.{IfOk, sym, ap, subst}
 use Rattle.gate_law.specs.Settings.{Settings}
 use Rattle.gate_journal.specs.Kept.{Kept}
 use Rattle.host_log.specs.declared.host_file.HostFile.{HostFile}
-use Rattle.host_log.specs.Seen.{host_seen}
 use Rattle.turn_log.specs.Kept.{TurnLogState}
 use Rattle.desk_gates.specs.desk.Ahead.{IsEnded}
 use Rattle.gateway_run.specs.declared.day.AuditedDay.{AuditedDay}

@@ -6,7 +6,7 @@ use Rattle.journal_pages.specs.declared.version.Version.TheVariants.{Two}
 use Rattle.journal_days.specs.Day.{day_records}
 use Rattle.gate_law.specs.Settings.{Settings}
 use Rattle.gate_law.specs.Events.{History}
-use Rattle.gate_journal.specs.Kept.{Kept, kept_in, turns}
+use Rattle.gate_journal.specs.Kept.{Kept, kept_in}
 use Rattle.audit_lines.specs.gate_audit.Pairs.{Pair}
 use Rattle.open_links.specs.declared.links.OpenLink.{OpenLink}
 use Rattle.open_links.specs.Links.{open_after, open_behind, open_in}

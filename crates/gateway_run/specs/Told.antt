@@ -1,5 +1,5 @@
 -- A day that is over, and its audit, written.
-use Rattle.std.specs.Prelude.{◌≡◌, ◌<◌, ◌^◌, ℕ, Bool, true, List, [], Option, None, Some, length}
+use Rattle.std.specs.Prelude.{◌≡◌, ◌<◌, ◌^◌, ℕ, Bool, true, List, Option, None, Some, length}
 use Rattle.std.specs.Io.KnownBytes.{Appends}
 use Rattle.gate_law.specs.Settings.{Settings}
 use Rattle.gate_law.specs.Events.{History}

@@ -1,6 +1,6 @@
 //! A day that is over, and its audit as it is printed.
 
-ghost use Rattle.std.specs.Prelude.{◌≡◌, ◌≤◌, [], true, IfOk, OnOk, MatchOption};
+ghost use Rattle.std.specs.Prelude.{◌≡◌, ◌≤◌, [], true, false, IfOk, OnOk, MatchOption};
 ghost use Rattle.std.specs.Io.KnownBytes.{Appends};
 ghost use Rattle.gate_law.specs.Settings as settings;
 ghost use Rattle.gate_law.specs.Events as law;
@@ -171,13 +171,15 @@ impl Day {
     }
 
     /// Its audit, once its journal's file was read again: where pages of the history left memory the audit is of what
-    /// the file has, page by page, of a journal that was lost so far as that has it.
+    /// the file has, page by page, of a journal that was lost so far as that has it. Such a one is never said to have
+    /// the day: what its file has may not be durable.
     ///
     /// `NoDay` where pages left memory and the file is no day's, or can't be read.
     pub fn audited_by<R: Read>(self, alloc: Global, input: &mut R) -> Result<AuditedDay, RunFault>
         ensures settings { IfOk result (λ day. day.settings ≡ self.settings) }
         ensures has { IfOk result (λ day. day.has_day ≡ true
             → IsFileAudited self.settings day.read.bytes day.pairs.items day.links.items) }
+        ensures lost { IfOk result (λ day. day.has_day ≡ true → self.is_lost ≡ false) }
         ensures memory { IfOk result (λ day. self.is_whole ≡ true
             → IsFoundOf self.settings self.kept day.pairs.items day.links.items) }
         ensures file { IfOk result (λ day. self.is_lost ≡ false → IsSeen self.journal day.read.bytes
@@ -187,12 +189,13 @@ impl Day {
             history,
             settings,
             journal,
+            is_lost,
             ..
         } = self;
         let _ = size_of(&journal);
         match history {
-            DayHistory::Whole(history) => audit_whole(alloc, history, settings, input),
-            DayHistory::Written(history) => audit_written(alloc, history, settings, input),
+            DayHistory::Whole(history) => audit_whole(alloc, history, settings, is_lost, input),
+            DayHistory::Written(history) => audit_written(alloc, history, settings, is_lost, input),
         }
     }
 }
@@ -220,22 +223,32 @@ fn size_of(journal: &Option<TurnLog<HostFile>>) -> u64
     }
 }
 
-/// The audit of a history that is in memory, and whether a journal's file has just it, and its end.
+/// Whether a journal has its day: its file has it, and the journal wasn't lost.
+fn is_kept(has: bool, is_lost: bool) -> bool
+    ensures { result ≡ true → (has ≡ true) × (is_lost ≡ false) }
+{
+    has && !is_lost
+}
+
+/// The audit of a history that is in memory, and whether the file of a journal that wasn't lost has just it, and its
+/// end.
 fn audit_whole<R: Read>(
     alloc: Global,
     history: History,
     settings: Settings,
+    is_lost: bool,
     input: &mut R,
 ) -> Result<AuditedDay, RunFault>
     ensures settings { IfOk result (λ day. day.settings ≡ settings) }
     ensures found { IfOk result (λ day. IsFoundOf settings history day.pairs.items day.links.items) }
     ensures has { IfOk result (λ day. day.has_day ≡ true → IsFileSaying history day.read.bytes) }
+    ensures lost { IfOk result (λ day. day.has_day ≡ true → is_lost ≡ false) }
 {
     let mut file = Vec::new(alloc);
     let is_read = input.read_to_end(&mut file).is_ok();
     let mut read = Noted::new();
     read.note(&file);
-    let has_day = is_read && has_day(alloc, &history, &file)?;
+    let has_file = is_read && has_day(alloc, &history, &file)?;
     drop(file);
     let links = links_of(alloc, &history)?;
     let pairs = audit(alloc, &history, &settings)?;
@@ -243,7 +256,7 @@ fn audit_whole<R: Read>(
         settings,
         pairs,
         links,
-        has_day,
+        has_day: is_kept(has_file, is_lost),
         read,
     })
 }
@@ -273,16 +286,18 @@ fn is_same(read: &History, day: &History) -> bool
 }
 
 /// The audit of what a journal's file has, read page by page, and whether that is as long as this history, and the day
-/// over.
+/// over, of a journal that wasn't lost.
 fn audit_written<R: Read>(
     alloc: Global,
     history: GrowingHistory,
     settings: Settings,
+    is_lost: bool,
     input: &mut R,
 ) -> Result<AuditedDay, RunFault>
     ensures settings { IfOk result (λ day. day.settings ≡ settings) }
     ensures read { IfOk result (λ day. IsFileRead settings history day.read.bytes day.pairs.items day.links.items
         day.has_day) }
+    ensures lost { IfOk result (λ day. day.has_day ≡ true → is_lost ≡ false) }
 {
     let mut reader = DayReader::new(alloc);
     let mut audit = DayAudit::new(alloc, &settings)?;
@@ -290,11 +305,12 @@ fn audit_written<R: Read>(
     let (ending, number) = take_file(alloc, input, &mut reader, &mut audit, &mut links)?;
     let is_all = number == next_number(history.recent().pages);
     let pairs = audit.pairs(alloc, &settings)?;
+    let has_file = is_all && is_over(ending);
     Ok(AuditedDay {
         settings,
         pairs,
         links,
-        has_day: is_all && is_over(ending),
+        has_day: is_kept(has_file, is_lost),
         read: reader.into_read(),
     })
 }

@@ -1,4 +1,4 @@
-use Rattle.std.proofs.Common.{◌≡◌, ◌==◌, ◌∙◌, arith, List, ℕ, [], true, refl, sym, ap, subst}
+use Rattle.std.proofs.Common.{◌≡◌, ◌==◌, ◌∙◌, arith, List, ℕ, true, refl, sym, subst}
 use Rattle.std.proofs.lemmas.Bool.Decides.{nat_tests}
 use Rattle.gate_journal.specs.Kept.{Kept, kept_in, turns}
 use Rattle.gate_audit.specs.Auditing.{IsAuditing}
@@ -30,15 +30,15 @@ returns-clause-read g c =
       };
       links = c.in_ok-ending.ensures.links;
     } in
-    let over : c.if-is_all.result ≡ true → ending ≡ Over = λ is. elim c.if-is_all.branch [
-      | then-is_all w ↦ w.is_over.ensures (sym w.result-is ∙ is)
+    let over : c.if-is_all.has_file ≡ true → ending ≡ Over = λ is. elim c.if-is_all.branch [
+      | then-is_all w ↦ w.is_over-has_file.ensures (sym w.has_file-is ∙ is)
       | else-is_all w ↦ absurd (w.if-is_all.false (same-number c.in_ok-ending.number c.next_number.result
-          (sym w.result-is ∙ is)))
+          (sym w.has_file-is ∙ is)))
     ] in
     record {
       has_day = λ is. record {
         day = day;
-        says = subst (λ (e : Ending). Says file day e) (over is) says;
+        says = subst (λ (e : Ending). Says file day e) (over (c.is_kept.ensures is).0) says;
         found = found;
       };
       same = λ f end few seen.

@@ -1,4 +1,4 @@
-use Rattle.std.proofs.Common.{◌≡◌, ◌∙◌, List, [], sym, ap, subst}
+use Rattle.std.proofs.Common.{◌∙◌, List, [], sym, ap, subst}
 use Rattle.gate_law.specs.Events.{History}
 use Rattle.gate_journal.specs.Kept.{GoOnBy, kept_in, turns}
 use Rattle.gate_audit.specs.Auditing.{IsAuditing}
