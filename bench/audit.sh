@@ -27,7 +27,7 @@ fi
 
 for orders in "${@:-20000}"; do
     "$work/audit" <<<"$orders"
-    valgrind -q --tool=massif --max-snapshots=200 --massif-out-file="$work/massif" "$work/audit" <<<"$orders" > "$work/said"
+    valgrind -q --tool=massif --max-snapshots=1000 --massif-out-file="$work/massif" "$work/audit" <<<"$orders" > "$work/said"
     python3 - "$work/massif" "$orders" <<'PYTHON'
 import sys
 
@@ -35,9 +35,12 @@ heap = []
 for snapshot in open(sys.argv[1]).read().split("#-----------\nsnapshot=")[1:]:
     values = dict(line.split("=", 1) for line in snapshot.split("\n") if line.startswith("mem_heap"))
     heap.append(int(values["mem_heap_B"]) + int(values["mem_heap_extra_B"]))
-# the day is made where the most is given back: the core that made it. The last is when all is let go.
+# the day is made where the most is given back: the core that made it, until more is taken again. The last is when all
+# is let go.
 drops = [before - after for before, after in zip(heap, heap[1:-1])]
 made = drops.index(max(drops)) + 1
+while heap[made + 1] < heap[made]:
+    made += 1
 print("%d bytes an order" % ((max(heap[made:]) - heap[made]) / int(sys.argv[2])))
 PYTHON
 done
