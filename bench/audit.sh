@@ -8,7 +8,7 @@ set -euo pipefail
 
 here=$(cd "$(dirname "${BASH_SOURCE[0]}")" && pwd)
 repository=$(dirname "$here")
-needs=(gate_audit gate_journal script_steps script_lines decimal_digits)
+needs=(gate_audit gate_journal script_steps script_lines wire_bytes)
 
 work=${WORK:-$(mktemp -d "${TMPDIR:-/tmp}/fevzurk-audit.XXXXXX")}
 [ -n "${WORK:-}" ] || trap 'rm -rf "$work"' EXIT

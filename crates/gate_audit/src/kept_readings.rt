@@ -45,6 +45,13 @@ impl KeptReadings {
         Ok(())
     }
 
+    /// Gives back the memory that is there for further orders.
+    pub fn shrink(&mut self)
+        ensures { (all : List SaidToClient) → AreKept all self.old → AreKept all self.new }
+    {
+        self.readings.shrink_to_fit();
+    }
+
     /// An order's account, as its client read it. `TooLarge` just where, after one of the reports, what was read has a
     /// number that is larger than its integer holds; or else `NoMemory`.
     pub fn account(&self, alloc: Global, opening: &Opening) -> Result<Account, ReadingFault>

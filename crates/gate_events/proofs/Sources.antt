@@ -28,7 +28,7 @@ lists-more to batches i batch inside is =
     (append-nil (unless_empty (told_to to (batch_seen batch))))
 
 -- what a batch tells, where it isn't nothing
-pub told-kept : (outs : List LinkOut) (told : List law.LinkOut) → map link_out_seen outs ≡ told → 1 ≤ length outs
-    → unless_empty told ≡ map link_out_seen outs ∷ []
-told-kept [] told is some = absurd (omega (arith, some))
-told-kept (x ∷ xs) told is some = ap unless_empty (sym is)
+pub output-kept : (outs : List LinkOut) (output : List law.LinkOut) → map link_out_seen outs ≡ output → 1 ≤ length outs
+    → unless_empty output ≡ map link_out_seen outs ∷ []
+output-kept [] output is some = absurd (omega (arith, some))
+output-kept (x ∷ xs) output is some = ap unless_empty (sym is)

@@ -166,7 +166,7 @@ impl ClientFrame {
 
 impl Batch {
     /// The output to a client's or a port's link, in order; nothing where the batch doesn't name it. Takes no memory.
-    pub fn told(&self, to: Recipient) -> &[LinkOut]
+    pub fn output(&self, to: Recipient) -> &[LinkOut]
         ensures { map link_out_seen result.now ≡ told_to to (batch_seen self.now) }
     {
         match to {

@@ -22,8 +22,8 @@ pub(crate) fn read<R: Wait, S: Read, G: Gate, C: Clock>(
 ) -> Result<(), LinkFault>
     requires from_one { 1 ≤ steps }
     ensures has_read { reads_of peer link result
-        (record { put = G.was_put gate.old; told = C.told clock.old })
-        (record { put = G.was_put gate.new; told = C.told clock.new })
+        (record { put = G.was_put gate.old; reported = C.reported clock.old })
+        (record { put = G.was_put gate.new; reported = C.reported clock.new })
         (S.remaining stream.old) (S.remaining stream.new) }
     ensures none_taken { G.was_taken gate.new ≡ G.was_taken gate.old }
 {

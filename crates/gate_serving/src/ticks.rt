@@ -19,7 +19,7 @@ pub struct Ticks<'a, G, C> {
 }
 
 impl<'a, G: Gate, C: Clock> Job for Ticks<'a, G, C> {
-    ghost did = { TicksDid G.gave_back G.was_put G.was_taken C.told };
+    ghost did = { TicksDid G.gave_back G.was_put G.was_taken C.reported };
 
     /// Makes time pass until its own flag is set.
     fn run<R: Wait>(self, rt: &R, alloc: Global, _flag: &AtomicBool) -> Self {

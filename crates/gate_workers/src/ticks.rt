@@ -21,7 +21,7 @@ pub fn ticker<R: Wait, G: Gate, C: Clock>(
     clock: &mut C,
     stop: &AtomicBool,
 )
-    ensures ticks { PutsTicks G.gave_back clients ports (C.told clock.old) (C.told clock.new)
+    ensures ticks { PutsTicks G.gave_back clients ports (C.reported clock.old) (C.reported clock.new)
         (G.was_put gate.old) (G.was_put gate.new) }
     ensures none_taken { G.was_taken gate.new ≡ G.was_taken gate.old }
 {

@@ -3,13 +3,12 @@
 
 ghost use Rattle.std.specs.Prelude.{◌≤◌};
 
+use command_lines::{Asked, Error, asked, audit_script, is_version, links_of, tell_refusal};
 use day_export::{ExportFault, Format, export_file, format_of};
-use gateway_command::{Asked, Error, asked, is_version, links_of};
 use gateway_demo::show_demo;
 use gateway_run::{SettingsFault, SettingsFile, read};
 use journal_audit::{audit_file, audit_so_far, script_file};
 use journal_file::{Ending, ReadFault};
-use script_command::{audit_script, tell_refusal};
 use std::alloc::Global;
 use std::fs::File;
 use std::hash::RandomState;

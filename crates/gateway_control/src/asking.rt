@@ -1,11 +1,11 @@
 //! How a gateway that runs is told to end.
 
-use decimal_digits::{are_digits, number_of};
 use std::alloc::Global;
 use std::io::{ErrorKind, Read, Write};
 use std::net::{Net, TcpListener, TcpStream, ToSocketAddrs};
 use std::time::{Clock, Duration};
 use std::{io, thread};
+use wire_bytes::{are_digits, number_of};
 
 /// How long a connect, a read and a write may take.
 fn longest_wait() -> Duration {

@@ -68,8 +68,8 @@ impl Market {
 
     /// Steps the market, and writes what it says.
     fn step<W: Write>(&mut self, event: SimEvent, to: &mut W) -> Result<(), DemoFault> {
-        let said = self.sim.step(self.alloc, event)?;
-        say(self.alloc, said.as_slice(), to)
+        let replies = self.sim.step(self.alloc, event)?;
+        say(self.alloc, replies.as_slice(), to)
     }
 }
 

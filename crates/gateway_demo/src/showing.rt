@@ -1,7 +1,7 @@
 //! All of it at once.
 
 ghost use Rattle.std.specs.Prelude.{◌≡◌, ◌≤◌};
-ghost use Rattle.gateway_run.specs.Told.{AuditIsTold};
+ghost use Rattle.gateway_run.specs.Audits.{AuditIsWritten};
 
 use crate::client::Client;
 use crate::fault::DemoFault;
@@ -61,7 +61,7 @@ pub fn show_demo<R, W: Write, F: Write>(
 where
     R: Threads + Wait + Sync + Clock + Eprint + Net<Listener = TcpListener, Stream = TcpStream>,
     ensures status { result ≤ 1 }
-    ensures told { result ≡ 0 → AuditIsTold (W.contents output.old) (W.contents output.new) }
+    ensures written { result ≡ 0 → AuditIsWritten (W.contents output.old) (W.contents output.new) }
 {
     match demo(rt, alloc, hasher) {
         Ok(day) => audit_day(alloc, day, output, faults),

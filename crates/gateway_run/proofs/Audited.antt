@@ -3,11 +3,11 @@ use Rattle.std.proofs.Common.{◌≡◌, ◌<◌, ◌^◌, ◌∙◌, ℕ, Bool,
 use Rattle.std.proofs.Common.{IfOk, sym, ap, subst}
 use Rattle.gate_law.specs.Settings.{Settings}
 use Rattle.gate_journal.specs.Kept.{Kept}
-use Rattle.host_log.specs.declared.host_file.HostFile.{HostFile}
-use Rattle.turn_log.specs.Kept.{TurnLogState}
+use Rattle.journal_log.specs.declared.host_file.HostFile.{HostFile}
+use Rattle.journal_log.specs.Kept.{TurnLogState}
 use Rattle.desk_gates.specs.desk.Ahead.{IsEnded}
 use Rattle.gateway_run.specs.declared.day.AuditedDay.{AuditedDay}
-use Rattle.gateway_run.specs.Told.{FileHas, IsFileAudited, IsFileRead, IsFileSaying, IsFoundOf, IsSeen}
+use Rattle.gateway_run.specs.Audits.{FileHas, IsFileAudited, IsFileRead, IsFileSaying, IsFoundOf, IsSeen}
 use Rattle.gateway_run.proofs.Back.{found-same, turned-round}
 
 -- of a history in memory that its file has

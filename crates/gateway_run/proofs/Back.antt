@@ -1,5 +1,6 @@
 -- What a file says that was given a history and an end: the history; and what is found of days that are the same.
-use Rattle.std.proofs.Common.{◌≡◌, ◌<◌, ◌^◌, ℕ, None, List, [], ◌∷◌, ◌++◌, length, refl, sym, ap, subst, ◌∙◌, arith, append-nil}
+use Rattle.std.proofs.Common.{◌≡◌, ◌<◌, ◌^◌, ℕ, None, List, [], ◌∷◌, ◌++◌, length, refl, sym, ap, subst, ◌∙◌, arith}
+use Rattle.std.proofs.Common.{append-nil}
 use Rattle.std.proofs.Common.{length-append}
 use mathlib.Core.List.{IsPrefix}
 use Rattle.journal_pages.specs.declared.version.Version.TheVariants.{Two}
@@ -7,18 +8,18 @@ use Rattle.journal_days.specs.Day.{day_records}
 use Rattle.gate_law.specs.Settings.{Settings}
 use Rattle.gate_law.specs.Events.{History}
 use Rattle.gate_journal.specs.Kept.{Kept, kept_in}
-use Rattle.audit_lines.specs.gate_audit.Pairs.{Pair}
-use Rattle.open_links.specs.declared.links.OpenLink.{OpenLink}
-use Rattle.open_links.specs.Links.{open_after, open_behind, open_in}
+use Rattle.gate_lines.specs.gate_audit.Pairs.{Pair}
+use Rattle.gate_journal.specs.declared.links.OpenLink.{OpenLink}
+use Rattle.gate_journal.specs.Links.{open_after, open_behind, open_in}
 use Rattle.gate_events.specs.declared.event.Event.{Event}
 use Rattle.journal_file.specs.File.{file_of, sized_page}
 use Rattle.journal_file.specs.Said.{ReadsInFront, ReadsNothingElse}
-use Rattle.host_log.specs.declared.host_file.HostFile.{HostFile}
-use Rattle.host_log.specs.Seen.{host_may_leave, host_seen}
-use Rattle.same_days.proofs.Days.{compared, turns-same}
-use Rattle.same_days.specs.Same.{IsSameDay}
-use Rattle.turn_log.specs.Kept.{HasEnd}
-use Rattle.gateway_run.specs.Told.{IsAuditOf, IsFoundOf}
+use Rattle.journal_log.specs.declared.host_file.HostFile.{HostFile}
+use Rattle.journal_log.specs.Seen.{host_may_leave, host_seen}
+use Rattle.gate_journal.proofs.Days.{compared, turns-same}
+use Rattle.gate_journal.specs.Same.{IsSameDay}
+use Rattle.journal_log.specs.Kept.{HasEnd}
+use Rattle.gateway_run.specs.Audits.{IsAuditOf, IsFoundOf}
 
 none-left : (l : List (List ℕ)) → length l ≡ 0 → l ≡ []
 none-left [] e = refl

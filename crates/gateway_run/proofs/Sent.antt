@@ -8,16 +8,16 @@ use Rattle.std.proofs.Crossing.{crosses}
 use Rattle.std.specs.declared.hash.BuildHasher as BuildHasher
 use Rattle.std.specs.declared.hash.Hasher as Hasher
 use Rattle.desk_gates.proofs.desk.Sent.{shared_sync}
-use Rattle.status_board.proofs.Sent.{board_sync}
+use Rattle.gateway_watch.proofs.Sent.{board_sync}
 use Rattle.desk_gates.specs.desk.declared.DeskName as DeskName
-use Rattle.desk_gates.specs.contracts.bell.BellClock as BellClock
+use Rattle.desk_gates.specs.contracts.waker.WakerClock as WakerClock
 use Rattle.gateway_run.specs.contracts.counted.CountedLinks as CountedLinks
 use Rattle.gateway_run.specs.contracts.run_opener.RunOpener as RunOpener
 use Rattle.gateway_run.specs.contracts.clock.RunClock as RunClock
 use Rattle.gateway_run.specs.contracts.clock.Watch as Watch
 use Rattle.gateway_run.specs.contracts.port_faults.PortLinks as PortLinks
 use Rattle.gateway_run.specs.contracts.memory_watch.MemoryWatch as MemoryWatch
-use Rattle.host_log.specs.contracts.later.LaterSync as LaterSync
+use Rattle.journal_log.specs.contracts.later.LaterSync as LaterSync
 use Rattle.gateway_run.specs.contracts.order_watch.OrderWatch as OrderWatch
 use Rattle.gateway_run.specs.contracts.run_gate.RunGate as RunGate
 use Rattle.gateway_run.specs.contracts.sync_timer.SyncTimer as SyncTimer
@@ -50,18 +50,20 @@ module _ (a : NamedLft) (R : RattleType) (r : IsSync R) where
       (search (r, sendable) depth 40, (search (sendable, crosses) depth 40, (search (sendable, crosses) depth 40, tt)))
 
 module _ (a : NamedLft) (K R : RattleType) (k : DeskName.Ghosts K.Denot) (r : IsSync R) where
-  pub bell_send : (S T : RattleType) (g : BuildHasher.Ghosts S.Denot T.Denot) (h : Hasher.Ghosts T.Denot) → IsSend S
-      → IsSend (BellClock.the_row a K R S T k g h)
-  bell_send S T g h s = let shared = shared_sync K S T k g h s in declared_send (BellClock.the_type a K R S T k g h) (
-    search (r, sendable),
-    (
-      search (shared, sendable) depth 40,
-      (
-        search sendable,
-        (search (sendable, crosses) depth 40, (search sendable, tt)),
-      ),
-    ),
-  )
+  pub waker_clock_send : (S T : RattleType) (g : BuildHasher.Ghosts S.Denot T.Denot) (h : Hasher.Ghosts T.Denot)
+      → IsSend S
+      → IsSend (WakerClock.the_row a K R S T k g h)
+  waker_clock_send S T g h s = let shared = shared_sync K S T k g h s in
+      declared_send (WakerClock.the_type a K R S T k g h) (
+        search (r, sendable),
+        (
+          search (shared, sendable) depth 40,
+          (
+            search sendable,
+            (search (sendable, crosses) depth 40, (search sendable, tt)),
+          ),
+        ),
+      )
 
   pub port_links_send : (C : RattleType) → IsSend C → IsSend (PortLinks.the_row a C K R k)
   port_links_send C c = declared_send (PortLinks.the_type a C K R k) (

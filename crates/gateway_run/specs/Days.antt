@@ -1,6 +1,6 @@
 -- The history of a day that is over, be it in memory or not.
 use Rattle.std.specs.Prelude.{Bool, true, false}
-use Rattle.audit_lines.specs.gate_audit.gate_journal.Kept.{Kept}
+use Rattle.gate_lines.specs.gate_audit.gate_journal.Kept.{Kept}
 use Rattle.gateway_run.specs.declared.day.DayHistory.{DayHistory}
 use Rattle.gateway_run.specs.declared.day.DayHistory.TheVariants.{Whole, Written}
 

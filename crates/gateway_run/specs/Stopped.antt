@@ -1,6 +1,6 @@
 -- A day that stopped: what its file has. (Own.)
 use Rattle.std.specs.Prelude.{◌≡◌, ℕ, ◌%◌, ◌^◌, List, length}
-use Rattle.audit_lines.specs.gate_audit.gate_journal.Kept.{Kept}
+use Rattle.gate_lines.specs.gate_audit.gate_journal.Kept.{Kept}
 use Rattle.journal_file.specs.declared.ending.Ending.{Ending}
 use Rattle.journal_file.specs.declared.ending.Ending.TheVariants.{GoesOn, Over, Torn}
 use Rattle.journal_file.specs.Said.{Says}

@@ -6,9 +6,9 @@ use crate::order_watch::OrderWatch;
 use crate::sync_timer::SyncTimer;
 use desk_gates::{DeskName, Shared};
 use gate_serving::Clock;
-use host_log::LaterSync;
+use gateway_watch::StatusBoard;
+use journal_log::LaterSync;
 use link_sockets::SystemClock;
-use status_board::StatusBoard;
 use std::alloc::Global;
 use std::hash::RandomState;
 use std::sync::Wait;
@@ -85,7 +85,7 @@ impl<'a, K: DeskName, R: Wait + time::Clock + Eprint> RunClock<'a, K, R> {
 impl<'a, K: DeskName, R: Wait + time::Clock + Eprint> Clock for RunClock<'a, K, R> {
     ghost use Rattle.std.specs.Prelude.{None};
 
-    ghost told = { λ _. None };
+    ghost reported = { λ _. None };
 
     fn now_ms(&mut self) -> u64 {
         self.clock.now_ms()
@@ -119,12 +119,12 @@ struct Watch<'a, K: DeskName, R> {
 }
 
 impl<'a, K: DeskName, R: Wait + time::Clock + Eprint> Watch<'a, K, R> {
-    /// Pauses until the next round of ticks, and rings the bells of writers for whom something waits.
+    /// Pauses until the next round of ticks, and wakes the writers for whom something waits.
     fn pause(&mut self, clock: &mut SystemClock<'a, R>) {
         let end = clock.now_ms().saturating_add(u64::from(BETWEEN_TICKS));
         for _ in 0..BETWEEN_TICKS {
             clock.pause();
-            self.shared.ring_waiting(self.rt);
+            self.shared.wake_waiting(self.rt);
             self.shared.turns_wanted(self.alloc);
             self.show(clock.now_ms());
             self.sync(clock.now_ms());

@@ -4,32 +4,31 @@ ghost use Rattle.std.specs.Prelude.{◌≡◌, ◌≤◌, [], true, false, IfOk,
 ghost use Rattle.std.specs.Io.KnownBytes.{Appends};
 ghost use Rattle.gate_law.specs.Settings as settings;
 ghost use Rattle.gate_law.specs.Events as law;
-ghost use Rattle.audit_lines.specs.Lines.{shown_audit};
-ghost use Rattle.audit_lines.specs.gate_audit.Auditing.{IsAuditing};
+ghost use Rattle.gate_lines.specs.AuditLines.{shown_audit};
+ghost use Rattle.gate_lines.specs.gate_audit.Auditing.{IsAuditing};
 ghost use Rattle.gate_law.specs.Holds.{Holds};
-ghost use Rattle.audit_lines.specs.gate_audit.gate_journal.Kept.{kept_in, turns, turns_onto};
+ghost use Rattle.gate_lines.specs.gate_audit.gate_journal.Kept.{kept_in, turns, turns_onto};
 ghost use Rattle.journal_file.specs.Said.{Says};
 ghost use Rattle.journal_file.specs.declared.ending.Ending.TheVariants.{Over};
 ghost use Rattle.gateway_run.specs.Faults.{status_of};
-ghost use Rattle.same_days.specs.Same.{IsSameDay};
-ghost use Rattle.open_links.specs.Links.{open_behind, open_in};
-ghost use Rattle.gateway_run.specs.Told.{AuditIsTold, AuditIsToldOf, FileHas, IsFileRead, IsFileSaying, IsFoundOf};
+ghost use Rattle.gate_journal.specs.Same.{IsSameDay};
+ghost use Rattle.gate_journal.specs.Links.{open_behind, open_in};
+ghost use Rattle.gateway_run.specs.Audits.{AuditIsWritten, AuditIsWrittenOf, FileHas, IsFileRead, IsFileSaying};
+ghost use Rattle.gateway_run.specs.Audits.{IsFoundOf};
 
 use crate::fault::RunFault;
-use audit_lines::{History, OrderPair, ReadingFault, Settings, audit, write_audit};
 use desk_gates::{Closed, HostFile};
 use gate_audit::DayAudit;
-use gate_journal::{GrowingHistory, TurnPages};
+use gate_journal::{GrowingHistory, OpenLink, TurnPages, first_other, follow};
+use gate_lines::{History, OrderPair, ReadingFault, Settings, audit, write_audit};
 use gate_serving::LinkFault;
 use journal_days::next_number;
 use journal_file::{DayFile, DayReader, Ending, FileFault, NextTurns, PageFault, read_file};
-use noted_bytes::Noted;
-use open_links::{OpenLink, follow};
-use same_days::first_other;
+use journal_log::TurnLog;
+use journal_pages::Noted;
 use std::alloc::{AllocError, Global};
 use std::io::{Read, Write};
 use std::marker::Model;
-use turn_log::TurnLog;
 
 /// The history of a day that is over.
 #[derive(Drop)]
@@ -54,10 +53,10 @@ pub struct Day {
 impl Model for Day {
     ghost use Rattle.std.specs.Prelude.{◌≡◌, false};
     ghost use Rattle.gate_law.specs.Holds.{Holds};
-    ghost use Rattle.audit_lines.specs.gate_audit.gate_journal.Kept.{turns};
+    ghost use Rattle.gate_lines.specs.gate_audit.gate_journal.Kept.{turns};
     ghost use Rattle.desk_gates.specs.desk.Ahead.{IsEnded};
     ghost use Rattle.gateway_run.specs.Days.{is_whole, kept_of};
-    ghost use Rattle.gateway_run.specs.Told.{DayState};
+    ghost use Rattle.gateway_run.specs.Audits.{DayState};
 
     ghost Value = { DayState };
 
@@ -89,9 +88,9 @@ pub struct AuditedDay {
 impl Day {
     ghost use Rattle.std.specs.Prelude.{◌≡◌, false, true, IfOk, IfSome, None};
     ghost use Rattle.gate_law.specs.Holds.{Holds};
-    ghost use Rattle.audit_lines.specs.gate_audit.gate_journal.Kept.{turns};
+    ghost use Rattle.gate_lines.specs.gate_audit.gate_journal.Kept.{turns};
     ghost use Rattle.desk_gates.specs.desk.Ahead.{IsEnded};
-    ghost use Rattle.gateway_run.specs.Told.{IsFileAudited, IsFoundOf, IsSeen};
+    ghost use Rattle.gateway_run.specs.Audits.{IsFileAudited, IsFoundOf, IsSeen};
 
     /// The day of a desk that was closed, with the first fault of a link. Takes no memory.
     pub(crate) fn of(closed: Closed, fault: Option<LinkFault>) -> Day
@@ -423,8 +422,8 @@ pub fn end_stopped_day<W: Write, F: Write>(
 pub fn audit_day<W: Write, F: Write>(alloc: Global, day: Day, output: &mut W, faults: &mut F) -> u8
     ensures status { result ≤ 1 }
     ensures audited { result ≡ 0
-        → AuditIsToldOf day.settings (turns day.kept) (W.contents output.old) (W.contents output.new) }
-    ensures told { result ≡ 0 → AuditIsTold (W.contents output.old) (W.contents output.new) }
+        → AuditIsWrittenOf day.settings (turns day.kept) (W.contents output.old) (W.contents output.new) }
+    ensures written { result ≡ 0 → AuditIsWritten (W.contents output.old) (W.contents output.new) }
 {
     match day.audited(alloc) {
         Ok(audited) => end_day(alloc, &audited, output, faults),

@@ -1,12 +1,12 @@
 //! Where a day is written ahead, and what is there of it.
 
 ghost use Rattle.std.specs.Prelude.{◌≡◌, [], IfOk};
-ghost use Rattle.host_log.specs.Whole.{HasJust};
+ghost use Rattle.journal_log.specs.Whole.{HasJust};
 ghost use Rattle.gateway_run.specs.Stopped.{EndsTorn, IsStopped};
 
 use desk_gates::{HostFile, StoppedLog};
-use host_log::OpenFault;
 use journal_file::{DayReader, Ending, FileFault, NextTurns, ReadFault};
+use journal_log::OpenFault;
 use std::alloc::Global;
 use std::io::Read;
 use thiserror::Error;
@@ -94,7 +94,7 @@ impl From<OpenFault> for StoppedFault {
 impl DayJournal {
     ghost use Rattle.std.specs.Prelude.{[], ℕ, List, IfOk};
     ghost use Rattle.gateway_run.specs.Stopped.{IsStopped};
-    ghost use Rattle.host_log.specs.Whole.{HasJust};
+    ghost use Rattle.journal_log.specs.Whole.{HasJust};
 
     /// Of a day that begins, in a file that was made.
     pub fn begun(file: HostFile) -> DayJournal

@@ -4,11 +4,11 @@ ghost use Rattle.std.specs.Prelude.{◌≡◌};
 ghost use Rattle.gateway_run.specs.Faults.{run_fault};
 ghost use Rattle.gateway_run.specs.declared.fault.RunFault.TheVariants.{NoMemory};
 
-use audit_lines::ReadingFault;
 use desk_gates::ReplayFault;
+use gate_lines::ReadingFault;
 use gate_serving::ServeFault;
-use host_log::OpenFault;
 use journal_file::ReadFault;
+use journal_log::OpenFault;
 use std::alloc::AllocError;
 
 /// Why a gateway could not run to its end.

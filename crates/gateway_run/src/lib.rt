@@ -22,16 +22,16 @@ mod sync_timer;
 mod telling;
 mod telling_gate;
 
-pub use audit_lines::{History, OrderPair, ReadingFault, Settings, audit};
 pub use by_settings::{end_stopped, run_settings};
 pub use day::{AuditedDay, Day, audit_day, end_day, end_stopped_day, tell};
 pub use day_journal::{DayJournal, StoppedDay, StoppedFault};
 pub use ends::{LinkRules, RunPlan};
 pub use fault::RunFault;
 pub use gate_events::PortNumber;
+pub use gate_lines::{History, OrderPair, ReadingFault, Settings, audit};
+pub use gateway_watch::StatusBoard;
 pub use running::{run, run_shown};
 pub use settings_file::{SettingsFault, SettingsFile, read};
 pub use soup_session::PortFault;
-pub use status_board::StatusBoard;
 pub use sync_timer::SyncTimer;
 pub use telling::{Teller, Whose};

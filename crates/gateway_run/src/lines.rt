@@ -12,13 +12,13 @@ use crate::sync_timer::SyncTimer;
 use crate::telling::{Teller, Whose};
 use crate::telling_gate::TellingGate;
 use desk_gates::{
-    BellClock, DeskName, Finished, Inlet, InletGate, Outlet, OutletEnd, OutletGate, OutletPen,
-    Prompt, Shared,
+    DeskName, Finished, Inlet, InletGate, Outlet, OutletEnd, OutletGate, OutletWriter, Prompt,
+    Shared, WakerClock,
 };
 use gate_events::{Recipient, Source};
-use gate_serving::{Line, LinkFault, PenWorker, Ticks, Worker};
-use host_log::LaterSync;
-use status_board::StatusBoard;
+use gate_serving::{Line, LinkFault, Ticks, Worker, WriterWorker};
+use gateway_watch::StatusBoard;
+use journal_log::LaterSync;
 use std::alloc::{AllocError, Global};
 use std::hash::RandomState;
 use std::sync::Wait;
@@ -28,7 +28,7 @@ use std::time::{Clock, Duration};
 /// How many steps a worker makes of one link at most.
 const STEPS: u64 = 1_000_000_000_000;
 
-/// How long a writer sleeps at most where nobody rings its outlet's bell: then it looks whether there is memory again.
+/// How long a writer sleeps at most where nobody wakes its outlet: then it looks whether there is memory again.
 fn longest_sleep() -> Duration {
     Duration::from_millis(10)
 }
@@ -48,7 +48,7 @@ pub(crate) type WritingGate<'a, K, R> = TellingGate<'a, OutletGate<'a, K, Random
 pub(crate) type RunLine<'p, 'a, W, G, A, C, K, R> = Line<
     RunOpener<CountedLinks<'a, A>, PortLinks<'a, C, K, R>>,
     Worker<ReadingGate<'p, 'a, W, G, K, R>, RunClock<'a, K, R>>,
-    PenWorker<'p, W, G, BellClock<'a, K, R, RandomState>>,
+    WriterWorker<'p, W, G, WakerClock<'a, K, R, RandomState>>,
 >;
 
 /// The ticks of a gateway.
@@ -65,7 +65,7 @@ pub(crate) struct Count {
     pub(crate) ports: u16,
 }
 
-/// The line of a client or port over the gate of its inlet and the pen of its outlet, both at this position.
+/// The line of a client or port over the gate of its inlet and the writer of its outlet, both at this position.
 pub(crate) fn line_of<'p, 'a, W: Prompt + Drop, G: OutletEnd + Drop, A, C, K, R>(
     rt: &'a R,
     shared: &'a Shared<K, RandomState>,
@@ -73,14 +73,14 @@ pub(crate) fn line_of<'p, 'a, W: Prompt + Drop, G: OutletEnd + Drop, A, C, K, R>
     opener: RunOpener<CountedLinks<'a, A>, PortLinks<'a, C, K, R>>,
     gate: ReadingGate<'p, 'a, W, G, K, R>,
     at: usize,
-    pen: &'p OutletPen<W, G>,
+    outlet_writer: &'p OutletWriter<W, G>,
 ) -> RunLine<'p, 'a, W, G, A, C, K, R>
 where
     K: DeskName,
     R: Wait + Clock + Eprint,
     ensures peer { result.peer ≡ peer }
     ensures gate { result.reader.gate ≡ gate.entry }
-    ensures pen { G.told result.writer.pen.now.first.value ≡ pen.now.to }
+    ensures shared_writer { G.output_for result.writer.shared_writer.now.first.value ≡ outlet_writer.now.to }
     ensures fault { result.fault ≡ None }
 {
     Line {
@@ -92,7 +92,10 @@ where
             gate,
             clock: RunClock::new(rt),
         },
-        writer: PenWorker::new(pen.pen(), BellClock::new(rt, shared, at, longest_sleep())),
+        writer: WriterWorker::new(
+            outlet_writer.shared_writer(),
+            WakerClock::new(rt, shared, at, longest_sleep()),
+        ),
     }
 }
 
@@ -108,7 +111,7 @@ pub(crate) fn ticks_of<'p, 'a, W: Prompt + Drop, G: OutletEnd + Drop, K, R>(
     is_over: &'a AtomicBool,
     board: &'a StatusBoard,
     inlet: Inlet<K>,
-    pens: &'p [OutletPen<W, G>],
+    outlet_writers: &'p [OutletWriter<W, G>],
     syncs: Option<SyncTimer<LaterSync>>,
 ) -> Option<RunTicks<'p, 'a, W, G, K, R>>
 where
@@ -118,7 +121,7 @@ where
 {
     if inlet.source() == Source::Clock {
         let Count { clients, ports } = count;
-        let own = InletGate::new(shared, pens, inlet);
+        let own = InletGate::new(shared, outlet_writers, inlet);
         return Some(Ticks {
             clients,
             ports,
@@ -189,13 +192,13 @@ impl<K: DeskName> Left<K> {
         Ok(())
     }
 
-    /// Ends the outlets of pens, and keeps what was taken. One whose link isn't over is let go.
+    /// Ends the outlets of writers, and keeps what was taken. One whose link isn't over is let go.
     pub(crate) fn end_outlets<'a, W: Prompt + Drop, R: Clock + Eprint>(
         &mut self,
-        pens: Vec<OutletPen<W, WritingGate<'a, K, R>>>,
+        outlet_writers: Vec<OutletWriter<W, WritingGate<'a, K, R>>>,
     ) -> Result<(), AllocError> {
-        for pen in pens {
-            if let Some(gate) = pen.into_gate() {
+        for outlet_writer in outlet_writers {
+            if let Some(gate) = outlet_writer.into_gate() {
                 self.finished.push(gate.into_gate().finish())?;
             }
         }
@@ -203,21 +206,21 @@ impl<K: DeskName> Left<K> {
     }
 }
 
-/// The pens of a desk's outlets, by position.
-pub(crate) fn pens_of<'a, W: Prompt + Drop, K: DeskName, R: Clock + Eprint>(
+/// The writers of a desk's outlets, by position.
+pub(crate) fn outlet_writers_of<'a, W: Prompt + Drop, K: DeskName, R: Clock + Eprint>(
     rt: &'a R,
     alloc: Global,
     shared: &'a Shared<K, RandomState>,
     outlets: Vec<Outlet<K>>,
     tells_frames: bool,
-) -> Result<Vec<OutletPen<W, WritingGate<'a, K, R>>>, AllocError> {
-    let mut pens = Vec::with_capacity(alloc, outlets.len())?;
+) -> Result<Vec<OutletWriter<W, WritingGate<'a, K, R>>>, AllocError> {
+    let mut outlet_writers = Vec::with_capacity(alloc, outlets.len())?;
     for outlet in outlets {
         let teller = frame_teller_of(rt, tells_frames, &outlet.recipient());
         let gate = TellingGate::new(alloc, OutletGate::new(shared, outlet), teller);
-        pens.push(OutletPen::new(gate))?;
+        outlet_writers.push(OutletWriter::new(gate))?;
     }
-    Ok(pens)
+    Ok(outlet_writers)
 }
 
 /// Who tells of the frames that a client is sent, where that is told of; of what a port is sent nobody does.

@@ -4,10 +4,9 @@ ghost use Rattle.std.specs.Prelude.{◌≡◌, ◌<◌, IfOk};
 ghost use Rattle.gateway_run.specs.Waiting as spec;
 
 use crate::telling::{Teller, Whose};
-use audit_lines::Settings;
 use fix_stamp::stamp;
-use port_waits::{PortWait, due_since, orders_at, orders_wait, wait_after};
-use status_board::{PortRow, Status};
+use gate_lines::Settings;
+use gateway_watch::{PortRow, PortWait, Status, due_since, orders_at, orders_wait, wait_after};
 use std::alloc::{AllocError, Global};
 use std::fmt::{Display, Formatter};
 use std::time::Clock;

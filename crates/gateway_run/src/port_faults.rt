@@ -6,7 +6,7 @@ use crate::login_pause::pause_behind;
 use crate::telling::{Teller, Whose};
 use desk_gates::{DeskName, Shared};
 use gate_serving::{LinkEnd, LinkFault, Opened, Opener};
-use status_board::{PortState, fault_name};
+use gateway_watch::{PortState, fault_name};
 use std::alloc::Global;
 use std::fmt::{Display, Formatter};
 use std::hash::RandomState;
@@ -34,7 +34,7 @@ pub(crate) struct PortLinks<'a, C, K: DeskName, R> {
     number: u16,
     opener: C,
     leaves_alone: bool,
-    is_told: bool,
+    is_reported: bool,
     alloc: Global,
     /// The letter with which the last login was rejected; 0 where it wasn't.
     letter: Option<&'a AtomicU8>,
@@ -61,7 +61,7 @@ impl<'a, C, K: DeskName, R: Wait + Clock + Eprint> PortLinks<'a, C, K, R> {
             number,
             opener,
             leaves_alone,
-            is_told: false,
+            is_reported: false,
             alloc,
             letter,
             rejected: 0,
@@ -74,19 +74,19 @@ impl<'a, C, K: DeskName, R: Wait + Clock + Eprint> PortLinks<'a, C, K, R> {
         self.letter
     }
 
-    /// Tells why there is no further link, where there is none and that wasn't told.
+    /// Tells why there is no further link, where there is none and that wasn't reported.
     fn look(&mut self)
         ensures { self.new.opener ≡ self.old.opener }
     {
-        if self.is_told {
+        if self.is_reported {
             return;
         }
         if let Some(fault) = self.shared.port_fault(self.rt, self.number) {
-            self.is_told = true;
+            self.is_reported = true;
             self.teller()
                 .tell_port_fault(fault.number(), fault_name(fault));
         } else if self.leaves_alone && self.is_ended() {
-            self.is_told = true;
+            self.is_reported = true;
             self.teller().tell("session ended by the market");
         }
     }
@@ -152,7 +152,7 @@ impl<'a, C: Opener, K: DeskName, R: Wait + Clock + Eprint> Opener for PortLinks<
 
     ghost use Rattle.std.specs.Prelude.{◌≡◌, ◌⊎◌, true};
 
-    ghost has_ended = { λ t. C.has_ended t.opener ⊎ (t.is_told ≡ true) };
+    ghost has_ended = { λ t. C.has_ended t.opener ⊎ (t.is_reported ≡ true) };
 
     type Reader = C::Reader;
 
@@ -162,7 +162,7 @@ impl<'a, C: Opener, K: DeskName, R: Wait + Clock + Eprint> Opener for PortLinks<
 
     fn open(&mut self) -> Option<Result<Opened<C::Reader, C::Writer, C::Closer>, LinkFault>> {
         self.look();
-        if self.leaves_alone && self.is_told {
+        if self.leaves_alone && self.is_reported {
             return None;
         }
         if self.leaves_alone {

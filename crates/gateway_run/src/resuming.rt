@@ -7,7 +7,7 @@ use crate::fault::RunFault;
 use crate::sync_timer::SyncTimer;
 use desk_gates::{DeskName, Inlet, OpenLink, Outlet, Replayed, Shared};
 use gate_serving::Clock as _;
-use host_log::LaterSync;
+use journal_log::LaterSync;
 use link_sockets::SystemClock;
 use std::alloc::{AllocError, Global};
 use std::hash::RandomState;

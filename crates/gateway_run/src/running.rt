@@ -2,7 +2,7 @@
 
 ghost use Rattle.std.specs.Prelude.{◌≡◌, ◌<◌, length, IfOk, None};
 ghost use Rattle.gate_law.specs.Holds.{Holds};
-ghost use Rattle.audit_lines.specs.gate_audit.gate_journal.Kept.{turns};
+ghost use Rattle.gate_lines.specs.gate_audit.gate_journal.Kept.{turns};
 ghost use Rattle.desk_gates.specs.desk.Ahead.{IsEnded};
 ghost use Rattle.desk_gates.specs.desk.Settling.{AreSettled};
 
@@ -11,18 +11,18 @@ use crate::day::Day;
 use crate::day_journal::DayJournal;
 use crate::ends::{Ends, LinkRules, RunPlan, ends_of};
 use crate::fault::RunFault;
-use crate::lines::{Count, Left, pens_of, ticks_of};
+use crate::lines::{Count, Left, outlet_writers_of, ticks_of};
 use crate::order_watch::ports_of_clients;
 use crate::port_faults::PortLinks;
 use crate::resuming::go_on;
 use crate::sync_timer::SyncTimer;
-use audit_lines::Settings;
 use desk_gates::{
-    Closed, DeskName, Finished, Inlet, OutletEnd, OutletPen, Parts, Prompt, Shared, open_desk,
+    Closed, DeskName, Finished, Inlet, OutletEnd, OutletWriter, Parts, Prompt, Shared, open_desk,
 };
+use gate_lines::Settings;
 use gate_serving::{Closer, Opener, serve};
-use host_log::LaterSync;
-use status_board::StatusBoard;
+use gateway_watch::StatusBoard;
+use journal_log::LaterSync;
 use std::alloc::{AllocError, Global};
 use std::hash::RandomState;
 use std::io::Read;
@@ -126,7 +126,13 @@ where
     let states = LinkStates::of(alloc, clients, plan.ports.len())?;
     let (shared, mut inlets, mut outlets) = open_desk::<K, RandomState>(alloc, parts)?;
     let syncs = go_on(rt, alloc, &shared, &mut inlets, &mut outlets, journal)?;
-    let pens = pens_of::<A::Writer, K, R>(rt, alloc, &shared, outlets, plan.rules.tells_frames)?;
+    let outlet_writers = outlet_writers_of::<A::Writer, K, R>(
+        rt,
+        alloc,
+        &shared,
+        outlets,
+        plan.rules.tells_frames,
+    )?;
     let mut left = serve_desk(
         rt,
         alloc,
@@ -135,13 +141,13 @@ where
         &shared,
         &states,
         inlets,
-        pens.as_slice(),
+        outlet_writers.as_slice(),
         plan,
         is_over,
         board,
         syncs,
     )?;
-    left.end_outlets(pens)?;
+    left.end_outlets(outlet_writers)?;
     let closed = close_desk(rt, alloc, shared, left.finished)?;
     Ok(Day::of(closed, left.fault))
 }
@@ -183,7 +189,7 @@ fn serve_desk<'p, 'a, K, R, A, C, G>(
     shared: &'a Shared<K, RandomState>,
     states: &'a LinkStates,
     inlets: Vec<Inlet<K>>,
-    pens: &'p [OutletPen<A::Writer, G>],
+    outlet_writers: &'p [OutletWriter<A::Writer, G>],
     plan: RunPlan<A, C>,
     is_over: &'a AtomicBool,
     board: &'a StatusBoard,
@@ -200,7 +206,7 @@ where
     G: OutletEnd + Send + Drop,
     requires clock { 0 < length inlets.items }
 {
-    let mut left = Left::with_room(alloc, inlets.len(), pens.len())?;
+    let mut left = Left::with_room(alloc, inlets.len(), outlet_writers.len())?;
     let mut inlets = inlets;
     let Some(clock) = inlets.pop() else {
         unreachable!()
@@ -213,10 +219,29 @@ where
     let counts = &states.clients;
     let clients = counted(alloc, clients, counts, is_over)?;
     let ports = left_alone(rt, alloc, shared, ports, states, rules, is_over)?;
-    let ends = ends_of(rt, alloc, shared, inlets, pens, clients, ports, rules)?;
+    let ends = ends_of(
+        rt,
+        alloc,
+        shared,
+        inlets,
+        outlet_writers,
+        clients,
+        ports,
+        rules,
+    )?;
     let Ends { lines, .. } = ends;
     let ticks = ticks_of(
-        rt, alloc, shared, count, ports_of, counts, is_over, board, clock, pens, syncs,
+        rt,
+        alloc,
+        shared,
+        count,
+        ports_of,
+        counts,
+        is_over,
+        board,
+        clock,
+        outlet_writers,
+        syncs,
     );
     match serve(rt, alloc, lines, ticks) {
         Ok((lines, ticks)) => {

@@ -4,8 +4,7 @@
 use crate::telling::Teller;
 use desk_gates::{Gate, OutletEnd};
 use fix_framing::{SOH, front_body};
-use gate_events::{Event, LinkOut, Recipient};
-use short_list::ShortList;
+use gate_events::{Event, LinkOut, Recipient, ShortList};
 use std::alloc::{AllocError, Global};
 use std::sync::Wait;
 use std::time::Clock;
@@ -76,7 +75,7 @@ impl<'a, G: Gate, R: Clock + Eprint> Gate for TellingGate<'a, G, R> {
 }
 
 impl<'a, G: OutletEnd, R: Clock + Eprint> OutletEnd for TellingGate<'a, G, R> {
-    ghost told = { λ t. G.told t.gate };
+    ghost output_for = { λ t. G.output_for t.gate };
 
     fn recipient(&self) -> Recipient {
         self.gate.recipient()
@@ -90,15 +89,15 @@ fn tell_frames<R: Clock + Eprint>(teller: &Teller<'_, R>, alloc: Global, text: &
         let Some((body, behind)) = front_body(rest) else {
             return;
         };
-        if is_told(body) {
+        if is_reported(body) {
             tell_message(teller, alloc, body);
         }
         rest = behind;
     }
 }
 
-/// Whether a frame of this body is told of: a ResendRequest, a Reject or a Logout.
-fn is_told(body: &[u8]) -> bool {
+/// Whether a frame of this body is reported: a ResendRequest, a Reject or a Logout.
+fn is_reported(body: &[u8]) -> bool {
     matches!(body, [b'3', b'5', b'=', b'2' | b'3' | b'5', SOH, ..])
 }
 

@@ -38,8 +38,8 @@ pub(crate) struct ServedPort<'a, R> {
     tries: u32,
     /// Since when the link is up.
     since: Option<Instant>,
-    /// The reason that was told last, and when.
-    told: Option<(ErrorKind, Instant)>,
+    /// The reason that was reported last, and when.
+    reported: Option<(ErrorKind, Instant)>,
 }
 
 impl<'a, R: Clock + Eprint> ServedPort<'a, R> {
@@ -60,7 +60,7 @@ impl<'a, R: Clock + Eprint> ServedPort<'a, R> {
             is_again: false,
             tries: 0,
             since: None,
-            told: None,
+            reported: None,
         }
     }
 
@@ -79,15 +79,15 @@ impl<'a, R: Clock + Eprint> ServedPort<'a, R> {
         }
     }
 
-    /// Tells why the port can't be connected, unless that was told just now.
+    /// Tells why the port can't be connected, unless that was reported just now.
     fn tell_refused(&mut self, error: &io::Error)
         ensures same { (self.new.opened ≡ self.old.opened) × (self.new.is_closed ≡ self.old.is_closed) }
     {
         let kind = error.kind();
-        if self.is_told(kind) {
+        if self.is_reported(kind) {
             return;
         }
-        self.told = match Instant::now(self.rt) {
+        self.reported = match Instant::now(self.rt) {
             Ok(now) => Some((kind, now)),
             Err(_) => None,
         };
@@ -98,9 +98,9 @@ impl<'a, R: Clock + Eprint> ServedPort<'a, R> {
         });
     }
 
-    /// Whether this reason was told just now.
-    fn is_told(&self, kind: ErrorKind) -> bool {
-        match &self.told {
+    /// Whether this reason was reported just now.
+    fn is_reported(&self, kind: ErrorKind) -> bool {
+        match &self.reported {
             Some((last, since)) => {
                 *last == kind
                     && match since.elapsed(self.rt) {
@@ -180,7 +180,7 @@ impl<'a, R: Net<Listener = TcpListener, Stream = TcpStream> + Clock + Eprint> Op
             Ok(link) => {
                 self.opened += 1;
                 self.since = Instant::now(self.rt).ok();
-                self.told = None;
+                self.reported = None;
                 self.teller.tell_of(&UpAt(self.address));
                 Some(Ok(link))
             }

@@ -122,11 +122,11 @@ impl<'a, R: Clock + Eprint> WaitingRoom<'a, R> {
     fn tell_refusal(&mut self, error: &Error)
         ensures same { self.new.opened ≡ self.old.opened }
     {
-        let is_told = match error.kind() {
+        let is_reported = match error.kind() {
             ErrorKind::WouldBlock | ErrorKind::Interrupted | ErrorKind::ConnectionAborted => true,
             _ => self.is_refused,
         };
-        if !is_told {
+        if !is_reported {
             self.is_refused = true;
             self.teller.tell_of(&NotTaken { error });
         }

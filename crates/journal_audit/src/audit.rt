@@ -6,7 +6,7 @@ ghost use Rattle.gate_lines.specs.gate_law.Events.{History};
 ghost use Rattle.gate_lines.specs.gate_law.Holds.{Holds};
 ghost use Rattle.gate_audit.specs.Auditing.{IsAuditing};
 ghost use Rattle.gate_audit.specs.Pairs.{accepted_pairs, pairs};
-ghost use Rattle.gate_lines.specs.audit_lines.Lines.{shown_audit};
+ghost use Rattle.gate_lines.specs.AuditLines.{shown_audit};
 ghost use Rattle.journal_file.specs.declared.ending.Ending.TheVariants.{Over};
 ghost use Rattle.journal_audit.specs.Audits.{IsAuditOfFile, IsNotOver, NamesAPage};
 ghost use Rattle.journal_file.specs.Inputs.{IsJudged, IsReadTo};

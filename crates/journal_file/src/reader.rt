@@ -26,8 +26,7 @@ use crate::reading::{DayFile, TORN_LIMIT, first_of_sum, has_at, is_unfinished, r
 use crate::window::Window;
 use gate_journal::{TurnPages, Version};
 use journal_days::DayJudge;
-use journal_pages::PageFault;
-use noted_bytes::{Noted, NotedPages};
+use journal_pages::{Noted, NotedPages, PageFault};
 use std::alloc::Global;
 use std::io::{Error, ErrorKind, Read};
 use std::marker::Model;

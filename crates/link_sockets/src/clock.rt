@@ -22,7 +22,7 @@ impl<'a, R: time::Clock> SystemClock<'a, R> {
 impl<'a, R: time::Clock> Clock for SystemClock<'a, R> {
     ghost use Rattle.std.specs.Prelude.{None};
 
-    ghost told = { λ _. None };
+    ghost reported = { λ _. None };
 
     /// The system's moment; the last one given if the system's is earlier or can't be read.
     fn now_ms(&mut self) -> u64 {

@@ -12,7 +12,7 @@ ghost use Rattle.order_table.specs.KeyLaws.{name-alike, number-alike, token-alik
 
 use crate::table::GivenToken;
 use crate::token_key::TokenKey;
-use hint_index::{Keyed, Sought, TextKey};
+use undo_index::{Keyed, Sought, TextKey};
 use undo_orders::{Boxed, Cancelling, Order, Replacing, is_same_token};
 
 /// The number of an OrderID, as a key.

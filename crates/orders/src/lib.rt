@@ -28,5 +28,5 @@ pub use order_trades::{ToldTrade, Trades};
 pub use progress::Progress;
 pub use replaces::Replaces;
 pub use requests::{Cancelling, Replacing};
-pub use same_bytes::{is_same_text, is_same_token};
 pub use symbol::Symbol;
+pub use wire_bytes::{is_same_text, is_same_token};

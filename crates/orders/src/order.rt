@@ -20,10 +20,10 @@ use crate::symbol::Symbol;
 use fix_types::{Character, ClOrdId, NewOrder};
 use order_machine::NextTokens;
 use order_trades::{ToldTrade, Trades};
-use same_bytes::is_same_token;
 use std::alloc::{AllocError, Global};
 use std::marker::Model;
 use std::snapshot::Snapshot;
+use wire_bytes::is_same_token;
 
 /// An accepted order. Contracts see it as `order_machine`'s record.
 pub struct Order {

@@ -21,7 +21,7 @@ mod ports;
 
 pub use day::DayNames;
 pub use escaping::push_escaped;
+pub use gateway_watch::{Shown, StatusBoard};
 pub use json::json_of;
 pub use metrics::metrics_of;
 pub use page::page_of;
-pub use status_board::{Shown, StatusBoard};

@@ -6,8 +6,8 @@ ghost use Rattle.status_page.specs.Metrics as spec;
 use crate::client_metric::ClientMetric;
 use crate::day::{DayNames, first_name, other_names};
 use crate::port_metric::PortMetric;
+use gateway_watch::{ClientRow, PortRow, Shown};
 use itoa::Buffer;
-use status_board::{ClientRow, PortRow, Shown};
 use std::alloc::{AllocError, Global};
 
 /// The metrics of a day: each with a line for each client or port. Before anything is shown there is the start alone.

@@ -7,8 +7,8 @@ ghost use Rattle.status_page.specs.Page as spec;
 use crate::escaping::push_escaped;
 use crate::port_words::reason_of;
 use fixed_point::PriceText;
+use gateway_watch::PortState;
 use itoa::Buffer;
-use status_board::PortState;
 use std::alloc::AllocError;
 
 /// Adds a word and a number.

@@ -4,7 +4,7 @@ ghost use Rattle.std.specs.Prelude.{◌≡◌};
 ghost use Rattle.status_page.specs.Numbers as numbers;
 ghost use Rattle.status_page.specs.Words as spec;
 
-use status_board::{PortState, fault_name};
+use gateway_watch::{PortState, fault_name};
 
 /// How a port stands, in words.
 pub(crate) fn state_name(state: PortState) -> &'static str

@@ -6,7 +6,7 @@ ghost use Rattle.status_page.specs.Page as spec;
 use crate::day::{first_name, other_names};
 use crate::pieces::{push_link, push_number, push_numbered, push_reason};
 use crate::port_words::state_name;
-use status_board::{PortRow, PortState};
+use gateway_watch::{PortRow, PortState};
 use std::alloc::AllocError;
 
 /// Adds the ports that somebody has to look at: each that isn't up. The first row has this number.

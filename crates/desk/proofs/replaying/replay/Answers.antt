@@ -2,10 +2,10 @@ use Rattle.std.proofs.Common.{◌≡◌, ◌∙◌, ◌==◌, ◌++◌, List, �
 use Rattle.std.proofs.lemmas.Bool.Decides.{nat_tests}
 use Rattle.journal_pages.specs.declared.version.Version.TheVariants.{Two}
 use Rattle.journal_file.specs.File.{sized_pages}
-use Rattle.host_log.specs.Seen.{host_may_leave, host_seen}
-use Rattle.host_log.specs.Whole.{HasJust}
-use Rattle.host_log.specs.declared.host_file.HostFile.{HostFile}
-use Rattle.turn_log.specs.Kept.{HasAll}
+use Rattle.journal_log.specs.Seen.{host_may_leave, host_seen}
+use Rattle.journal_log.specs.Whole.{HasJust}
+use Rattle.journal_log.specs.declared.host_file.HostFile.{HostFile}
+use Rattle.journal_log.specs.Kept.{HasAll}
 use Rattle.desk.proofs.Again.{IsFront, empty-front, file-has, named-front, same-just}
 use Rattle.desk.proofs.replaying.replay.Goals.{then-is_named, else-is_named}
 use Rattle.desk.proofs.replaying.replay.Goals as goal

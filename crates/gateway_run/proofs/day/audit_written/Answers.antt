@@ -6,7 +6,7 @@ use Rattle.journal_file.specs.Said.{Says}
 use Rattle.journal_file.specs.declared.ending.Ending.{Ending}
 use Rattle.journal_file.specs.declared.ending.Ending.TheVariants.{Over}
 use Rattle.journal_file.proofs.Meaning.{reads-in-front, reads-nothing-else}
-use Rattle.gateway_run.specs.Told.{IsFoundOf}
+use Rattle.gateway_run.specs.Audits.{IsFoundOf}
 use Rattle.gateway_run.proofs.Back.{found-same, given-back}
 use Rattle.gateway_run.proofs.day.audit_written.Goals.{then-is_all, else-is_all}
 use Rattle.gateway_run.proofs.day.audit_written.Goals as goal

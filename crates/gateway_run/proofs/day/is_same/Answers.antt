@@ -1,7 +1,7 @@
 use Rattle.std.proofs.Common.{sym, subst}
 use Rattle.gate_journal.specs.Cut.{texts}
 use Rattle.gate_journal.specs.Kept.{Kept, kept_in}
-use Rattle.same_days.specs.Same.{IsSameDay}
+use Rattle.gate_journal.specs.Same.{IsSameDay}
 use Rattle.gateway_run.proofs.day.is_same.Goals as goal
 
 pub returns-in-None : goal.returns-in-None

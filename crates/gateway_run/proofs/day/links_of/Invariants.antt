@@ -1,7 +1,7 @@
 -- The open links behind the events so far lead to those behind all.
 use Rattle.std.proofs.Common.{◌≡◌, length}
 use Rattle.gate_journal.specs.Left.{events_left}
-use Rattle.open_links.specs.Links.{open_behind, open_in}
+use Rattle.gate_journal.specs.Links.{open_behind, open_in}
 use Rattle.gateway_run.proofs.day.links_of.Given as goal
 
 abbrev pub invariant-loop-links : goal.invariant-loop-links

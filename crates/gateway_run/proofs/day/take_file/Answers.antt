@@ -2,8 +2,8 @@ use Rattle.std.proofs.Common.{◌∙◌, List, [], sym, ap, subst}
 use Rattle.gate_law.specs.Events.{History}
 use Rattle.gate_journal.specs.Kept.{GoOnBy, kept_in, turns}
 use Rattle.gate_audit.specs.Auditing.{IsAuditing}
-use Rattle.open_links.specs.declared.links.OpenLink.{OpenLink}
-use Rattle.open_links.specs.Links.{open_behind, open_in}
+use Rattle.gate_journal.specs.declared.links.OpenLink.{OpenLink}
+use Rattle.gate_journal.specs.Links.{open_behind, open_in}
 use Rattle.gateway_run.proofs.Back.{open-both}
 use Rattle.gateway_run.proofs.day.take_file.Goals as goal
 

@@ -2,7 +2,7 @@ use Rattle.gate_law.specs.Settings.{Settings}
 use Rattle.gate_journal.specs.Kept.{kept_in, turns}
 use Rattle.std.proofs.Common.{◌≡◌, []}
 use Rattle.gate_audit.specs.Auditing.{IsAuditing}
-use Rattle.open_links.specs.Links.{open_in}
+use Rattle.gate_journal.specs.Links.{open_in}
 use Rattle.gateway_run.proofs.day.take_file.Given as goal
 
 -- the audit is that of what was given, and so are the links that are up

@@ -4,7 +4,7 @@ use Rattle.gate_law.specs.Events.{History}
 use Rattle.gate_journal.specs.Kept.{turns_onto}
 use Rattle.gate_journal.specs.Left.{batches_left, events_left}
 use Rattle.gate_audit.specs.Auditing.{IsAuditing}
-use Rattle.open_links.specs.Links.{open_behind}
+use Rattle.gate_journal.specs.Links.{open_behind}
 use Rattle.gateway_run.proofs.day.take_part.Given as goal
 
 -- the audit is that of the turns taken, and those that are left make of it that of all; and so of the links

@@ -9,7 +9,7 @@ use Rattle.std.specs.declared.hash.BuildHasher as BuildHasher
 use Rattle.std.specs.declared.hash.Hasher as Hasher
 use Rattle.desk_gates.proofs.Sent.{outlet_gate_send}
 use Rattle.desk_gates.specs.desk.declared.DeskName as DeskName
-use Rattle.desk_gates.specs.desk.desk_ends.Rings.{NamedInlet}
+use Rattle.desk_gates.specs.desk.desk_rings.Rings.{NamedInlet}
 use Rattle.desk_gates.specs.contracts.outlet.OutletGate as OutletGate
 use Rattle.gateway_run.specs.contracts.telling_gate.TellingGate as TellingGate
 use Rattle.gateway_run.proofs.Sent.{telling_send}

@@ -2,7 +2,7 @@ use Rattle.std.proofs.Common.{◌≡◌, ◌∙◌, true, false, IfOk, arith, sy
 use Rattle.gate_journal.specs.Kept.{Kept}
 use Rattle.desk_gates.specs.desk.Ahead.{IsEnded}
 use Rattle.gateway_run.specs.Days.{kept_of}
-use Rattle.gateway_run.specs.Told.{DayState, IsFileAudited, IsFoundOf, IsSeen}
+use Rattle.gateway_run.specs.Audits.{DayState, IsFileAudited, IsFoundOf, IsSeen}
 use Rattle.gateway_run.proofs.Audited.{whole-has, written-file}
 use Rattle.gateway_run.proofs.day.Day.audited_by.Goals as goal
 
