@@ -8,7 +8,7 @@ set -euo pipefail
 
 here=$(cd "$(dirname "${BASH_SOURCE[0]}")" && pwd)
 repository=$(dirname "$here")
-needs=(gate_audit gate_journal script_steps script_lines decimal_digits)
+needs=(gate_audit gate_journal script_steps script_lines wire_bytes)
 
 work=${WORK:-$(mktemp -d "${TMPDIR:-/tmp}/fevzurk-audit.XXXXXX")}
 [ -n "${WORK:-}" ] || trap 'rm -rf "$work"' EXIT
@@ -21,7 +21,7 @@ if [ ! -x "$work/audit" ]; then
     cp "$here/audit.rt.in" "$work/crates/audit_day/src/main.rt"
     cp "$repository/crates.txt" "$work/"
     echo "audit_day: ${needs[*]}" >> "$work/crates.txt"
-    cp "$here/build-unproved.sh" "$work/bench/"
+    cp "$here/build-unproved.sh" "$here/near_proved.py" "$work/bench/"
     WITHOUT_CHECKS=1 "$work/bench/build-unproved.sh" audit_day "$work/audit"
 fi
 

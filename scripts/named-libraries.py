@@ -6,7 +6,8 @@ import os
 import re
 import sys
 
-KIT = {"clap", "indexmap", "io", "itoa", "jiff", "jiff_core", "memchr", "rand_core", "rand_pcg", "rtrb", "thiserror", "toml"}
+KIT = {"base64", "bytes", "clap", "http", "http_server", "indexmap", "io", "itoa", "jiff", "jiff_core", "memchr",
+       "rand_core", "rand_pcg", "rtrb", "serde_json", "thiserror", "toml", "toml_datetime"}
 CRATES = set(os.listdir("crates"))
 IN_SPECS = re.compile(r"\bRattle\.([a-z_0-9]+)\.")
 IN_CODE = re.compile(r"(?<![:\w.])(?:use )?::?([a-z_0-9]+)::|(?<![:\w.])([a-z_0-9]+)::|^\s*(?:pub )?use ([a-z_0-9]+)\b", re.M)
@@ -17,7 +18,7 @@ def without_comments(text):
 
 
 def named(crate):
-    names = set()
+    names, modules = set(), set()
     for folder, _, files in os.walk(os.path.join("crates", crate)):
         if {"out", "must-fail"} & set(folder.split("/")[2:]):
             continue
@@ -27,9 +28,16 @@ def named(crate):
             text = open(os.path.join(folder, file), encoding="utf-8").read()
             names.update(IN_SPECS.findall(text))
             if file.endswith(".rt"):
+                modules.add(file.removesuffix(".rt"))
                 for found in IN_CODE.findall(without_comments(text)):
                     names.update(found)
-    return (names & (CRATES | KIT)) - {crate} - {"io"}
+    named = without_own(names, modules, crate)
+    return (named & (CRATES | KIT)) - {crate} - {"io"}
+
+
+def without_own(names, modules, crate):
+    """Without modules of the crate's own that are named as a library and that crates.txt doesn't list."""
+    return names - (modules - set(listed().get(crate, [])))
 
 
 def listed():

@@ -13,5 +13,5 @@ pub fn number_of(digits: &str) -> Option<u64> {
     if digits.is_empty() {
         return None;
     }
-    decimal_digits::number_of(digits.as_bytes())
+    wire_bytes::number_of(digits.as_bytes())
 }

@@ -12,13 +12,13 @@ use Rattle.market_sim.specs.declared.event.SimEvent.{SimEvent}
 use Rattle.market_sim.specs.Sim.{SimState, sim_step}
 use Rattle.gate_law.specs.After.{is_close}
 use Rattle.gate_law.specs.Events.{LinkOut, Write, Close}
-use Rattle.world_links.specs.World as world
-use Rattle.world_links.specs.World.{Carried, World, at_port, carried, connected, ended, for_link, goes_out}
-use Rattle.world_links.specs.World.{market_steps, told_connection, with_connection}
-use Rattle.world_ports.specs.Lines.{Line, Way, ended_line, line_seen, market_line, opened_line, said_on, told_line}
-use Rattle.world_ports.specs.Lines.{told_on, with_way, with_written, written_to}
-use Rattle.world_ports.specs.declared.port_line.PortLine.{PortLine}
-use Rattle.world_ports.proofs.Places.{each-set, place-within}
+use Rattle.world_law.specs.World as world
+use Rattle.world_law.specs.World.{Carried, World, at_port, carried, connected, ended, for_link, goes_out}
+use Rattle.world_law.specs.World.{market_steps, told_connection, with_connection}
+use Rattle.closed_world.specs.Lines.{Line, Way, ended_line, line_seen, market_line, opened_line, said_on, told_line}
+use Rattle.closed_world.specs.Lines.{told_on, with_way, with_written, written_to}
+use Rattle.closed_world.specs.declared.port_line.PortLine.{PortLine}
+use Rattle.closed_world.proofs.LinePlaces.{each-set, place-within}
 use Rattle.closed_world.specs.Worlds.{AreLines, line_at, way_of}
 
 -- ---- by numbers

@@ -19,16 +19,16 @@ use Rattle.soup_packets.specs.Spelling.{packet_bytes}
 use Rattle.market_sim.specs.declared.event.SimEvent.TheVariants as sims
 use Rattle.market_sim.specs.Sim.{ReadsEvent, sim_step}
 use Rattle.gate_law.specs.soup_session.Table.{later}
-use Rattle.world_links.specs.World as world
-use Rattle.world_links.specs.World.{Carried, ConnectOf, CoreGets, ForPort, LoseOf, ToCoreOf, ToMarketOf, World}
-use Rattle.world_links.specs.World.{asked_by_event, carried, connected, core_steps, ended, market_steps}
-use Rattle.world_links.specs.World.{told_connection, told_port, with_connection}
-use Rattle.world_ports.specs.Lines.{ArePackets, Delivers, DeliversOn, Line, NothingToCore, TakesToCore, Way, line_seen}
-use Rattle.world_ports.specs.Lines.{market_line, told_line, with_way}
-use Rattle.world_ports.specs.declared.port_line.PortLine.{PortLine}
+use Rattle.world_law.specs.World as world
+use Rattle.world_law.specs.World.{Carried, ConnectOf, CoreGets, ForPort, LoseOf, ToCoreOf, ToMarketOf, World}
+use Rattle.world_law.specs.World.{asked_by_event, carried, connected, core_steps, ended, market_steps}
+use Rattle.world_law.specs.World.{told_connection, told_port, with_connection}
+use Rattle.closed_world.specs.Lines.{ArePackets, Delivers, DeliversOn, Line, NothingToCore, TakesToCore, Way, line_seen}
+use Rattle.closed_world.specs.Lines.{market_line, told_line, with_way}
+use Rattle.closed_world.specs.declared.port_line.PortLine.{PortLine}
 use Rattle.closed_world.specs.declared.world.ClosedWorld.{ClosedWorld}
 use Rattle.closed_world.specs.Worlds.{AreLines, Gets, Goes, IsAsWorld, IsStepped, IsWorld, after_turn, line_at, way_of}
-use Rattle.world_ports.proofs.Places.{at-place}
+use Rattle.closed_world.proofs.LinePlaces.{at-place}
 use Rattle.closed_world.proofs.Written.{batch-packets}
 use Rattle.closed_world.proofs.Changes.{Changes, changed-lines, changes-none, changes-then, connection-changes}
 use Rattle.closed_world.proofs.Changes.{market-changes, told-changes, untold-lines}

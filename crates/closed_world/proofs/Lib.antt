@@ -1,3 +1,6 @@
+pub mod LinePlaces
+mod Bytes
+mod Links
 pub mod Written
 pub mod Standing
 pub mod Changes

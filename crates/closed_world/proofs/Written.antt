@@ -12,7 +12,7 @@ use Rattle.gate_law.specs.Outcome.{LinkMove, Stays, Comes, Goes, Refused, Outcom
 use Rattle.gate_law.specs.After.{is_within_day, lists}
 use Rattle.gate_law.specs.Due.{Gives, to_port_of}
 use Rattle.gate_law.specs.Holds.{Holds, OfTurn}
-use Rattle.world_ports.specs.Lines.{ArePackets}
+use Rattle.closed_world.specs.Lines.{ArePackets}
 
 on-link : (link : ℕ) (outs : List PortOut) → ArePackets (map (port_line link) outs)
 on-link link [] = tt

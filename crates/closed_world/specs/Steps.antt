@@ -1,5 +1,5 @@
 -- Steps as the world has them.
-use Rattle.world_links.specs.World as world
+use Rattle.world_law.specs.World as world
 use Rattle.gate_events.specs.Seen.{event_seen}
 use Rattle.closed_world.specs.declared.step.WorldStep.{WorldStep}
 use Rattle.closed_world.specs.declared.step.WorldStep.TheVariants as steps

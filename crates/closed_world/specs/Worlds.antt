@@ -4,10 +4,10 @@ use Rattle.gate_law.specs.Settings.{Settings}
 use Rattle.gate_law.specs.Events.{Batch, Event, History}
 use Rattle.gate_core.specs.Core.{IsAfter}
 use Rattle.gate_journal.specs.Kept.{turns}
-use Rattle.world_links.specs.World as world
-use Rattle.world_links.specs.World.{Carried, CoreGets, Happens, LeadsTo, World}
-use Rattle.world_ports.specs.Lines.{Line, Way, line_seen}
-use Rattle.world_ports.specs.declared.port_line.PortLine.{PortLine}
+use Rattle.world_law.specs.World as world
+use Rattle.world_law.specs.World.{Carried, CoreGets, Happens, LeadsTo, World}
+use Rattle.closed_world.specs.Lines.{Line, Way, line_seen}
+use Rattle.closed_world.specs.declared.port_line.PortLine.{PortLine}
 use Rattle.closed_world.specs.declared.world.ClosedWorld.{ClosedWorld}
 
 -- ---- what a world has of a port: no program keeps what a packet on its way asks

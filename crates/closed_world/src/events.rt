@@ -3,7 +3,7 @@
 ghost use Rattle.std.specs.Prelude.{◌≡◌};
 ghost use Rattle.gate_core.specs.soup_session.Table as session;
 ghost use Rattle.gate_events.specs.Seen.{event_seen};
-ghost use Rattle.world_links.specs.World as world;
+ghost use Rattle.world_law.specs.World as world;
 
 use gate_events::Event;
 

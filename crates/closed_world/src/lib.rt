@@ -2,19 +2,20 @@
 //! says. Of the clients nothing is assumed.
 //!
 //! In go steps: a client's event, a tick, a connection that opens or ends, the next packet that is delivered, what a
-//! market does by itself. Each event of the core is kept with its batch. Nothing here reads a clock or a socket.
+//! market does by itself. Each event of the core is kept with its batch. Nothing here reads a clock or a socket. Of
+//! each port its market and its connection, with what is on its way, are one value beside the core: `src/port_line.rt`.
 //!
 //! Source: SoupBinTCP 3.00, "Packets Sent by the Client", "Packets Sent by the Server"; OUCH 4.2.
 #![tactic(auto)]
 
+mod connection;
 mod events;
 mod places;
+mod port_line;
 mod step;
 mod world;
 
-pub use gate_core::Settings;
-pub use gate_events::{ClientFrame, ClientNumber, Event, PortNumber};
-pub use gate_journal::History;
+pub use connection::Connection;
+pub use port_line::PortLine;
 pub use step::WorldStep;
 pub use world::ClosedWorld;
-pub use world_ports::{BookRow, Choice, Trading};

@@ -1,11 +1,11 @@
 //! Ports by their numbers.
 
 ghost use Rattle.std.specs.Prelude.{◌≡◌, ◌+◌, ◌<◌, ◌&&◌, nat_le, is_some, length, IfOk, IfSome};
-ghost use Rattle.world_links.specs.World.{opening_world};
+ghost use Rattle.world_law.specs.World.{opening_world};
 ghost use Rattle.closed_world.specs.Worlds.{AreLines};
 
+use crate::port_line::PortLine;
 use std::alloc::{AllocError, Global};
-use world_ports::PortLine;
 
 /// So many ports to which nothing has come yet.
 pub fn opening_lines(alloc: Global, count: usize) -> Result<Vec<PortLine>, AllocError>

@@ -1,7 +1,7 @@
 //! A step of the closed world.
 
 use gate_events::Event;
-use world_ports::Choice;
+use market_law::Choice;
 
 /// A step of the closed world. Ports go by their numbers, from 1 in the order of the settings. A step that can't be
 /// taken does nothing.

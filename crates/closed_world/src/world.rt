@@ -2,12 +2,13 @@
 
 use crate::events::{is_from_without, later, moment_of};
 use crate::places::{opening_lines, place_of};
+use crate::port_line::PortLine;
 use crate::step::WorldStep;
 use gate_core::{Core, Settings};
 use gate_events::{Batch, Event, LinkOut, PortNumber};
 use gate_journal::History;
+use market_law::{BookRow, Choice};
 use std::alloc::{AllocError, Global};
-use world_ports::{BookRow, Choice, PortLine};
 
 /// A core, a market for each port with its connection, and all events of the core with their batches.
 #[derive(Drop)]
@@ -28,10 +29,10 @@ impl ClosedWorld {
     ghost use Rattle.gate_events.specs.Seen.{batch_seen, event_seen, link_out_seen};
     ghost use Rattle.gate_journal.specs.Kept.{turns};
     ghost use Rattle.market_law.specs.Rows.{row, row_of_order};
-    ghost use Rattle.world_links.specs.World as world;
-    ghost use Rattle.world_links.specs.World.{World};
+    ghost use Rattle.world_law.specs.World as world;
+    ghost use Rattle.world_law.specs.World.{World};
     ghost use Rattle.closed_world.specs.Steps.{step_seen};
-    ghost use Rattle.world_ports.specs.Lines.{ArePackets};
+    ghost use Rattle.closed_world.specs.Lines.{ArePackets};
     ghost use Rattle.closed_world.specs.Worlds.{Gets, Goes, IsAsWorld, IsStepped, IsWorld, after_turn};
 
     /// The world of these settings, in which nothing has come yet: no orders, no connections, moment 0.

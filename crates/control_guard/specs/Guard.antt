@@ -5,7 +5,7 @@ use Rattle.std.specs.Prelude.{ℕ, Bool, true, false, not, ◌&&◌, List, ◌++
 use Rattle.std.specs.Prelude.{None, option_map, if◌then◌else◌, nat_le, take, drop}
 use Rattle.std.specs.Char.{is_ascii_digit}
 use Rattle.std.specs.List.{list_all, list_any}
-use Rattle.decimal_digits.specs.Digits.{number_of}
+use Rattle.wire_bytes.specs.Digits.{number_of}
 use Rattle.control_guard.specs.declared.request.Request.{Request}
 use Rattle.control_guard.specs.declared.request.Rules.{Rules}
 use Rattle.control_guard.specs.declared.request.Method.{Method}

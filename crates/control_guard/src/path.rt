@@ -4,7 +4,7 @@ ghost use Rattle.std.specs.Prelude.{◌≡◌, option_map};
 ghost use Rattle.control_guard.specs.Guard as spec;
 
 use crate::asked::{Act, Asked, View};
-use decimal_digits::{are_digits, number_of};
+use wire_bytes::{are_digits, number_of};
 
 /// What a path and its query ask for, where there are so many clients; `None` where there is no such path.
 pub(crate) fn asked_at(clients: u16, path: &[u8], query: Option<&[u8]>) -> Option<Asked>

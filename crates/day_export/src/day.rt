@@ -17,7 +17,7 @@ use gate_journal::TurnPages;
 use journal_file::{DayReader, Ending, NextTurns, ReadFault};
 use std::alloc::Global;
 use std::io::{Error, ErrorKind, Read, Write};
-use text_lines::StreamFault;
+use wire_streams::StreamFault;
 
 /// How often turns are read at most.
 const MOST_PARTS: u64 = 1_000_000_000_000;

@@ -1,8 +1,8 @@
 //! Why a day isn't exported.
 
 use journal_file::ReadFault;
-use text_lines::StreamFault;
 use thiserror::Error;
+use wire_streams::StreamFault;
 
 /// Why a day isn't exported.
 #[derive(Debug, Drop, Error)]

@@ -5,9 +5,10 @@ ghost use Rattle.ouch_codec.specs.Values.{decoded};
 ghost use Rattle.day_export.specs.Market as spec;
 
 use crate::cells::Cell;
-use ouch_codec::{Cancel, EnterOrder, FixedWire, Outbound, Replace, decode};
+use ouch_codec::{Cancel, EnterOrder, Outbound, Replace, decode};
 use soup_packets::Packet;
 use std::alloc::{AllocError, Global};
+use wire_law::FixedWire;
 
 /// What the market is asked, of the bytes of a packet to it: two of its length, its type, what it carries. No cells
 /// where they ask nothing: a login, a heartbeat.

@@ -14,12 +14,12 @@ use Rattle.desk_steps.specs.gate_journal.Day.{day_fault, day_records, kept_as, v
 use Rattle.desk_steps.specs.gate_journal.Kept.{Kept, kept_in}
 use Rattle.journal_file.specs.declared.ending.Ending.{Ending}
 use Rattle.journal_file.specs.Said.{Says}
-use Rattle.host_log.specs.Seen.{host_may_leave, host_seen}
-use Rattle.host_log.specs.Left.{IsLeft}
-use Rattle.host_log.specs.Whole.{HasJust, IsSameFile}
-use Rattle.host_log.specs.declared.host_file.HostFile.{HostFile}
+use Rattle.journal_log.specs.Seen.{host_may_leave, host_seen}
+use Rattle.journal_log.specs.Left.{IsLeft}
+use Rattle.journal_log.specs.Whole.{HasJust, IsSameFile}
+use Rattle.journal_log.specs.declared.host_file.HostFile.{HostFile}
 use Rattle.journal_file.specs.File.{before_page, form_of, sized_page, sized_pages, stands_at}
-use Rattle.turn_log.specs.Kept.{AreOf, HasAll}
+use Rattle.journal_log.specs.Kept.{AreOf, HasAll}
 
 -- with a part more on both sides they are the same still
 pub part-more : (before now told all part : List (List ℕ)) → day_records Two before ≡ day_records Two told

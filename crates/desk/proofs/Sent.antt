@@ -4,9 +4,9 @@ use denote.Param.Send.{IsSend, IsSync, sendable}
 use Rattle.std.specs.declared.hash.Hasher as Hasher
 use Rattle.std.specs.declared.hash.BuildHasher as BuildHasher
 use Rattle.std.proofs.Crossing.{crosses}
-pub use Rattle.desk_ends.proofs.Sent.{inlet_send, outlet_send}
-use Rattle.desk_ends.specs.declared.name.DeskName as DeskName
-use Rattle.desk_value.proofs.Sent.{desk_send}
+pub use Rattle.desk_rings.proofs.Sent.{inlet_send, outlet_send}
+use Rattle.desk_rings.specs.declared.name.DeskName as DeskName
+use Rattle.desk_steps.proofs.ValueSent.{desk_send}
 use Rattle.desk.specs.contracts.shared.Shared as Shared
 
 module _ (K S T : RattleType) (k : DeskName.Ghosts K.Denot) where

@@ -14,12 +14,12 @@ use Rattle.gate_events.specs.declared.event.Event.{Event}
 use Rattle.gate_events.specs.Sources.{events_from, is_same_source}
 use Rattle.desk_steps.specs.gate_journal.Kept.{Kept, lists_kept, nothing_kept}
 use Rattle.desk_steps.specs.Recorded.{Recorded}
-use Rattle.desk_ends.specs.Rings.{NamedInlet, NamedOutlet}
-use Rattle.desk_ends.specs.Seats.{SeatState, WayState, seat_name, way_name}
-use Rattle.desk_ends.proofs.Naming.{named}
+use Rattle.desk_rings.specs.Rings.{NamedInlet, NamedOutlet}
+use Rattle.desk_rings.specs.CoreEnds.{InletConsumerState, OutletProducerState, consumer_name, producer_name}
+use Rattle.desk_rings.proofs.Naming.{named}
 use Rattle.desk_rings.specs.declared.rings.EventRing.{EventRing}
-use Rattle.desk_rings.specs.declared.rings.ToldRing.{ToldRing}
-use Rattle.desk_rings.specs.Made.{IsFreshSeat, IsFreshWay, inlet_name, outlet_name}
+use Rattle.desk_rings.specs.declared.rings.OutputRing.{OutputRing}
+use Rattle.desk_rings.specs.Made.{IsFreshConsumer, IsFreshProducer, inlet_name, outlet_name}
 use Rattle.desk_steps.specs.desk_side.Places.{recipient_at, source_at}
 use Rattle.desk_steps.specs.desk_side.Opened.{IsOpened}
 use Rattle.desk_steps.specs.desk_side.Side.{SideState}
@@ -60,35 +60,36 @@ apart-by c p j k lj lk ne (ofClock a x) (ofPort b d y) = rw (x, y) refl
 apart-by c p j k lj lk ne (ofClock a x) (ofClock b y) = absurd (ne (omega (arith, lj, lk, a, b)))
 
 module _ (clients ports : ℕ) (recorded : Recorded) (side : SideState) (inlets : List EventRing)
-    (outlets : List ToldRing)
-    (o : IsOpened clients ports side inlets outlets) (none : recorded.kept ≡ nothing_kept) (few : clients + ports < 65_535) where
-  -- the seat that an inlet's name is of
-  seat-of : (k : ℕ) (a : NamedInlet) → slice_get (map inlet_name inlets) k ≡ Some a
-      → (x : SeatState) × (slice_get side.seats k ≡ Some x) × (x.name ≡ a)
-  seat-of k a at = named seat_name side.seats (map inlet_name inlets) k a (sym o.inlet_names) at
+    (outlets : List OutputRing)
+    (o : IsOpened clients ports side inlets outlets) (none : recorded.kept ≡ nothing_kept)
+    (few : clients + ports < 65_535) where
+  -- the consumer that has an inlet's name
+  consumer-of : (k : ℕ) (a : NamedInlet) → slice_get (map inlet_name inlets) k ≡ Some a
+      → (x : InletConsumerState) × (slice_get side.consumers k ≡ Some x) × (x.name ≡ a)
+  consumer-of k a at = named consumer_name side.consumers (map inlet_name inlets) k a (sym o.inlet_names) at
 
   pub source-of : (k : ℕ) (a : NamedInlet) → slice_get (map inlet_name inlets) k ≡ Some a
       → a.source ≡ source_at clients ports k
   source-of k a at =
-      let x = seat-of k a at in
+      let x = consumer-of k a at in
       ap (λ (n : NamedInlet). n.source) (sym x.2)
       ∙ (o.arranged.sources k x.0 x.1 ∙ rw (o.client_count, o.port_count) refl)
 
   pub inlet-count : length (map inlet_name inlets) ≡ clients + ports + 1
   inlet-count =
-      ap length o.inlet_names ∙ (length-map side.seats seat_name
-      ∙ (o.arranged.seat_count ∙ rw (o.client_count, o.port_count) refl))
+      ap length o.inlet_names ∙ (length-map side.consumers consumer_name
+      ∙ (o.arranged.consumer_count ∙ rw (o.client_count, o.port_count) refl))
 
   pub recipient-of : (d : ℕ) (w : NamedOutlet) → slice_get (map outlet_name outlets) d ≡ Some w
       → w.to ≡ recipient_at clients d
   recipient-of d w at =
-      let x = named way_name side.ways (map outlet_name outlets) d w (sym o.outlet_names) at in
+      let x = named producer_name side.producers (map outlet_name outlets) d w (sym o.outlet_names) at in
       ap (λ (n : NamedOutlet). n.to) (sym x.2) ∙ (o.arranged.recipients d x.0 x.1 ∙ rw (o.client_count) refl)
 
   pub outlet-count : length (map outlet_name outlets) ≡ clients + ports
   outlet-count =
-      ap length o.outlet_names ∙ (length-map side.ways way_name
-      ∙ (o.arranged.way_count ∙ rw (o.client_count, o.port_count) refl))
+      ap length o.outlet_names ∙ (length-map side.producers producer_name
+      ∙ (o.arranged.producer_count ∙ rw (o.client_count, o.port_count) refl))
 
   inside : (k : ℕ) (a : NamedInlet) → slice_get (map inlet_name inlets) k ≡ Some a → k < clients + ports + 1
   inside k a at = omega (arith, slice_get_within (map inlet_name inlets) k a at, inlet-count)
@@ -102,17 +103,17 @@ module _ (clients ports : ℕ) (recorded : Recorded) (side : SideState) (inlets 
   pub agrees-start : Agrees (map inlet_name inlets) (map outlet_name outlets)
       (record { recorded = recorded; side = side })
   agrees-start = record {
-    seat_names = sym o.inlet_names;
-    way_names = sym o.outlet_names;
+    consumer_names = sym o.inlet_names;
+    producer_names = sym o.outlet_names;
     apart = are-apart;
     few = omega (arith, inlet-count, few);
     from_all = λ k a at.
-        let fresh : a.gave ≡ [] = rw (get_or_from_slice_get side.seats k a a at) at
-        (o.seats_fresh k a (slice_get_within side.seats k a at)).0 in
+        let fresh : a.gave ≡ [] = rw (get_or_from_slice_get side.consumers k a a at) at
+        (o.consumers_fresh k a (slice_get_within side.consumers k a at)).0 in
         rw (none, fresh) refl;
     to_all = λ d w at.
-        let fresh : w.sent ≡ [] = rw (get_or_from_slice_get side.ways d w w at) at
-        (o.ways_fresh d w (slice_get_within side.ways d w at)).0 in
+        let fresh : w.sent ≡ [] = rw (get_or_from_slice_get side.producers d w w at) at
+        (o.producers_fresh d w (slice_get_within side.producers d w at)).0 in
         rw (none, fresh) (([], refl), λ no. refl);
     named = rw none (λ i e at. absurd (cc at));
   }

@@ -2,9 +2,9 @@
 use Rattle.std.specs.Prelude.{◌≡◌, ℕ, ◌+◌, All, Some, slice_get, List, length, map}
 use Rattle.gate_law.specs.Settings.{Settings}
 use Rattle.desk_steps.specs.Recorded.{Recorded}
-use Rattle.desk_ends.specs.Rings.{NamedInlet, NamedOutlet}
+use Rattle.desk_rings.specs.Rings.{NamedInlet, NamedOutlet}
 use Rattle.desk_rings.specs.declared.rings.EventRing.{EventRing}
-use Rattle.desk_rings.specs.declared.rings.ToldRing.{ToldRing}
+use Rattle.desk_rings.specs.declared.rings.OutputRing.{OutputRing}
 use Rattle.desk_rings.specs.Made.{IsFreshEvents, IsFreshLists, inlet_name, outlet_name}
 use Rattle.desk_steps.specs.desk_side.Places.{recipient_at, source_at}
 use Rattle.desk_steps.specs.desk_side.Side.{SideState}
@@ -18,7 +18,7 @@ pub record Offered : Type 0 where
 
 -- the core, the desk's side and the other ends agree, and nothing went through any ring
 pub record IsOffer (recorded : Recorded) (side : SideState) (inlets : List EventRing)
-    (outlets : List ToldRing) : Type 0 where
+    (outlets : List OutputRing) : Type 0 where
   pub agrees : Agrees (map inlet_name inlets) (map outlet_name outlets) (record { recorded = recorded; side = side })
   pub inlets_fresh : All IsFreshEvents inlets
   pub outlets_fresh : All IsFreshLists outlets

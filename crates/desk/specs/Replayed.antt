@@ -2,8 +2,8 @@
 use Rattle.std.specs.Prelude.{◌≡◌, ℕ, List, ◌++◌}
 use Rattle.journal_pages.specs.declared.version.Version.TheVariants.{Two}
 use Rattle.desk_steps.specs.gate_journal.Day.{day_records}
-use Rattle.same_records.specs.Apart.{batches_behind}
-use Rattle.turn_log.specs.Marks.{PartsFrom}
+use Rattle.journal_days.specs.Apart.{batches_behind}
+use Rattle.journal_log.specs.Marks.{PartsFrom}
 use Rattle.desk.specs.declared.replaying.ReplayFault.{ReplayFault}
 use Rattle.desk.specs.declared.replaying.ReplayFault.TheVariants.{File, NoMemory, OtherDay, Unread}
 

@@ -6,17 +6,16 @@
 #![tactic(auto)]
 
 mod opening;
+mod outlet_set;
 mod replaying;
 mod shared;
-mod told_outlets;
 
-pub use desk_ends::{DeskName, Finished, Inlet, Outlet, Recipient, more_places};
-pub use desk_steps::{GrowingHistory, History, Status, Turned};
-pub use desk_value::{Closed, Desk};
-pub use host_log::{HostFile, StoppedLog};
-pub use open_links::OpenLink;
+pub use desk_rings::{DeskName, Finished, Inlet, Outlet, more_places};
+pub use desk_steps::{Closed, Desk, Status, Turned};
+pub use gate_events::Recipient;
+pub use gate_journal::{GrowingHistory, History, OpenLink};
+pub use journal_log::{HostFile, LogFault, StoppedLog};
 pub use opening::{Parts, open_desk};
+pub use outlet_set::{OutletSet, WriteOutput};
 pub use replaying::{ReplayFault, Replayed};
 pub use shared::{Shared, Turns};
-pub use told_outlets::{ToldOutlets, WriteTold};
-pub use turn_log::LogFault;

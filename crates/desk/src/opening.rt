@@ -1,13 +1,13 @@
 //! How a desk is opened.
 
 ghost use Rattle.std.specs.Prelude.{◌≡◌, ℕ, [], Some, length, slice_get, vec_len, IfOk};
-ghost use Rattle.desk_ends.specs.Rings.{Putting, Taking};
+ghost use Rattle.desk_rings.specs.Rings.{Putting, Taking};
 
 use crate::shared::Shared;
-use desk_ends::{DeskName, Inlet, Outlet};
-use desk_rings::{EventRing, ToldRing, inlets_of, outlets_of};
-use desk_steps::{RecordedCore, Settings, Side, open_side};
-use desk_value::Desk;
+use desk_rings::{DeskName, EventRing, Inlet, Outlet, OutputRing, inlets_of, outlets_of};
+use desk_side::{Side, open_side};
+use desk_steps::{Desk, RecordedCore};
+use gate_settings::Settings;
 use std::alloc::{AllocError, Global};
 use std::collections::VecDeque;
 use std::hash::{BuildHasher, BuildHasherDefault, FoldHasher};
@@ -20,7 +20,7 @@ pub struct Parts<S: BuildHasher + Drop = BuildHasherDefault<FoldHasher>> {
     recorded: RecordedCore<S>,
     side: Side,
     inlets: VecDeque<EventRing>,
-    outlets: VecDeque<ToldRing>,
+    outlets: VecDeque<OutputRing>,
 }
 
 impl<S: BuildHasher + Drop> Model for Parts<S> {
@@ -95,7 +95,7 @@ pub fn open_desk<K: DeskName, S: BuildHasher + Drop>(
         → slice_get r.1.items k ≡ Some x → (x.at ≡ k) × (x.put ≡ []) × (x.free ≡ 1_024))) }
     ensures outlets { IfOk result (λ r. (length r.2.items ≡ length K.outlets) × ((d : ℕ) (x : Taking)
         → slice_get r.2.items d ≡ Some x → (x.at ≡ d) × (x.took ≡ []))) }
-    ensures bells { IfOk result (λ r. vec_len r.0.bells ≡ length K.outlets) }
+    ensures wakers { IfOk result (λ r. vec_len r.0.wakers ≡ length K.outlets) }
 {
     let Parts {
         recorded,
@@ -105,17 +105,17 @@ pub fn open_desk<K: DeskName, S: BuildHasher + Drop>(
     } = parts;
     let puts = inlets_of::<K>(alloc, inlets)?;
     let takes = outlets_of::<K>(alloc, outlets)?;
-    let bells = bells_of(alloc, takes.len())?;
-    Ok((Shared::new(Desk::new(recorded, side), bells), puts, takes))
+    let wakers = wakers_of(alloc, takes.len())?;
+    Ok((Shared::new(Desk::new(recorded, side), wakers), puts, takes))
 }
 
-/// So many bells.
-fn bells_of(alloc: Global, count: usize) -> Result<Vec<Parker>, AllocError>
-    ensures { IfOk result (λ bells. vec_len bells ≡ count) }
+/// So many wakers.
+fn wakers_of(alloc: Global, count: usize) -> Result<Vec<Parker>, AllocError>
+    ensures { IfOk result (λ wakers. vec_len wakers ≡ count) }
 {
-    let mut bells = Vec::new(alloc);
+    let mut wakers = Vec::new(alloc);
     for _ in 0..count {
-        bells.push(Parker::new())?;
+        wakers.push(Parker::new())?;
     }
-    Ok(bells)
+    Ok(wakers)
 }

@@ -1,7 +1,7 @@
 //! A day that stopped, stepped again.
 
 ghost use Rattle.std.specs.Prelude.{◌≡◌, ◌++◌, [], length, true, IfErr, IfOk, OnOk};
-ghost use Rattle.host_log.specs.Whole.{HasJust, IsSameFile};
+ghost use Rattle.journal_log.specs.Whole.{HasJust, IsSameFile};
 ghost use Rattle.journal_pages.specs.declared.version.Version.TheVariants.{Two};
 ghost use Rattle.desk_steps.specs.gate_journal.Day.{day_records};
 ghost use Rattle.desk_steps.specs.Settling.{HistoryGoesOn};
@@ -12,19 +12,19 @@ ghost use Rattle.journal_file.specs.Said.{Says};
 ghost use Rattle.desk.specs.Replayed.{IsOtherPart, IsSamePart};
 ghost use Rattle.desk.specs.declared.replaying.ReplayFault.TheVariants.{NoMemory};
 
-use crate::told_outlets::ToldOutlets;
-use desk_ends::{DeskName, Inlet, Outlet};
-use desk_value::Desk;
+use crate::outlet_set::OutletSet;
+use desk_rings::{DeskName, Inlet, Outlet};
+use desk_steps::Desk;
 use gate_events::Event;
-use gate_journal::{GrowingHistory, RecentPages, TurnPages, Turns};
-use host_log::{HostFile, LaterSync, OpenFault, StoppedLog};
+use gate_journal::{GrowingHistory, OpenLink, RecentPages, TurnPages, Turns, follow};
 use journal_file::{DayReader, Ending, NextTurns, ReadFault, SizedBytes, TooManyBytes};
-use open_links::{OpenLink, follow};
+use journal_log::{
+    Compared, DayLog, HostFile, LaterSync, OpenFault, StoppedLog, compare_since, mark_of,
+};
 use std::alloc::{AllocError, Global};
 use std::hash::BuildHasher;
 use std::io::Read;
 use thiserror::Error;
-use turn_log::{Compared, DayLog, compare_since, mark_of};
 
 /// So many lists lie at an outlet at most.
 const MOST_LISTS: u32 = 4_096;
@@ -178,11 +178,11 @@ fn step_file<K: DeskName, S: BuildHasher + Drop, R: Read>(
     outlets: &mut Vec<Outlet<K>>,
     links: &mut Vec<OpenLink>,
 ) -> Result<Ending, ReplayFault>
-    requires same { day_records Two desk.old.recorded.kept.pages ≡ day_records Two reader.old.told }
-    requires written { written.old ≡ sized_pages Two reader.old.told }
-    ensures same { OnOk result (day_records Two desk.new.recorded.kept.pages ≡ day_records Two reader.new.told) }
-    ensures written { OnOk result (written.new ≡ sized_pages Two reader.new.told) }
-    ensures says { IfOk result (λ ending. Says reader.new.read (kept_in reader.new.told) ending) }
+    requires same { day_records Two desk.old.recorded.kept.pages ≡ day_records Two reader.old.yielded }
+    requires written { written.old ≡ sized_pages Two reader.old.yielded }
+    ensures same { OnOk result (day_records Two desk.new.recorded.kept.pages ≡ day_records Two reader.new.yielded) }
+    ensures written { OnOk result (written.new ≡ sized_pages Two reader.new.yielded) }
+    ensures says { IfOk result (λ ending. Says reader.new.read (kept_in reader.new.yielded) ending) }
     ensures inlets { length inlets.new.items ≡ length inlets.old.items }
 {
     let mut batches = 0u64;
@@ -267,8 +267,8 @@ fn step_again<K: DeskName, S: BuildHasher + Drop>(
     ensures goes_on { HistoryGoesOn desk.old.recorded desk.new.recorded }
 {
     let turned = desk.round(alloc)?;
-    let prompt = ToldOutlets::of_bits(desk.take_rung());
-    let waiting = ToldOutlets::of_bits(desk.take_waiting());
+    let prompt = OutletSet::of_bits(desk.take_prompt());
+    let waiting = OutletSet::of_bits(desk.take_waiting());
     let_go(outlets, prompt.and(waiting));
     if turned.steps == 0 {
         return Err(AllocError);
@@ -289,9 +289,9 @@ pub(crate) fn put<K: DeskName>(inlets: &mut Vec<Inlet<K>>, event: Event) -> bool
 }
 
 /// Takes what these outlets were told, and lets it go.
-pub(crate) fn let_go<K: DeskName>(outlets: &mut Vec<Outlet<K>>, told: ToldOutlets) {
+pub(crate) fn let_go<K: DeskName>(outlets: &mut Vec<Outlet<K>>, with_output: OutletSet) {
     for place in 0..outlets.len() {
-        if told.contains(place) {
+        if with_output.contains(place) {
             let_all_go(&mut outlets[place]);
         }
     }

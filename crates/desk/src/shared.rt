@@ -2,22 +2,21 @@
 
 ghost use Rattle.std.specs.Prelude.{◌≡◌, [], List, length, vec_len};
 
+use crate::outlet_set::{OutletSet, WriteOutput};
 use crate::replaying::{ReplayFault, Replayed, begin, let_go, put, replay};
-use crate::told_outlets::{ToldOutlets, WriteTold};
-use desk_ends::{DeskName, Finished, Inlet, Outlet};
-use desk_steps::{PortFault, Status, Turned};
-use desk_value::{Closed, Desk};
+use desk_rings::{DeskName, Finished, Inlet, Outlet};
+use desk_steps::{Closed, Desk, Status, Turned};
 use fix_fields::Fields;
 use fix_session::LogonFault;
 use gate_events::{ClientNumber, Event};
-use host_log::{HostFile, StoppedLog};
+use journal_log::{HostFile, LogFault, StoppedLog};
+use soup_session::PortFault;
 use std::alloc::{AllocError, Global};
 use std::hash::{BuildHasher, BuildHasherDefault, FoldHasher};
 use std::sync::atomic::{AtomicBool, Ordering};
 use std::sync::{Mutex, MutexGuard, Wait};
 use std::thread::Parker;
 use std::time::Duration;
-use turn_log::LogFault;
 
 /// So many rounds are made under one lock at most, before what they told is written.
 const UNDER_ONE_LOCK: u32 = 8;
@@ -42,7 +41,8 @@ pub struct Turns {
 
 /// A desk that threads share.
 ///
-/// Beside the lock there is a bell for each outlet: a turn that told it something rings it, once the lock is free.
+/// Beside the lock there is a waker for each outlet: a turn that told it something wakes who waits for it, once the
+/// lock is free.
 pub struct Shared<K: DeskName, S: BuildHasher + Drop = BuildHasherDefault<FoldHasher>> {
     desk: Mutex<Desk<K, S>>,
     /// Rounds are wanted until one makes no step: by a thread that found the lock taken, or that stopped before.
@@ -51,7 +51,7 @@ pub struct Shared<K: DeskName, S: BuildHasher + Drop = BuildHasherDefault<FoldHa
     is_refused: AtomicBool,
     /// The journal's file failed: no more rounds are made, and nobody is told anything any more.
     is_lost: AtomicBool,
-    bells: Vec<Parker>,
+    wakers: Vec<Parker>,
 }
 
 // Not derived: then each way out drops it in one call (docs/DECISIONS.md, "Drops").
@@ -62,7 +62,7 @@ impl<K: DeskName, S: BuildHasher + Drop> Drop for Shared<K, S> {
             wanted: _,
             is_refused: _,
             is_lost: _,
-            bells: _,
+            wakers: _,
         } = self;
     }
 }
@@ -73,27 +73,26 @@ impl<K: DeskName, S: BuildHasher + Drop> Shared<K, S> {
     ghost use Rattle.desk_steps.specs.gate_journal.Kept.{turns};
     ghost use Rattle.desk_steps.specs.Agreeing.{AreNamed};
     ghost use Rattle.desk_steps.specs.Settling.{AreSettled};
-    ghost use Rattle.desk_value.specs.Ahead.{IsEnded, ToldIsKept};
-    ghost use Rattle.host_log.specs.Whole.{HasJust};
+    ghost use Rattle.desk_steps.specs.Ahead.{IsEnded, OutputIsKept};
+    ghost use Rattle.journal_log.specs.Whole.{HasJust};
 
-    /// This desk, to be shared, with the bells of its outlets.
-    pub(crate) fn new(desk: Desk<K, S>, bells: Vec<Parker>) -> Shared<K, S>
-        ensures { vec_len result.bells ≡ vec_len bells }
+    /// This desk, to be shared, with the wakers of its outlets.
+    pub(crate) fn new(desk: Desk<K, S>, wakers: Vec<Parker>) -> Shared<K, S>
+        ensures { vec_len result.wakers ≡ vec_len wakers }
     {
         Shared {
             desk: Mutex::new(desk),
             wanted: AtomicBool::new(false),
             is_refused: AtomicBool::new(false),
             is_lost: AtomicBool::new(false),
-            bells,
+            wakers,
         }
     }
 
-    /// A round (`Desk::round`) under the lock. Rings the bells of the outlets that were told something, once the lock
-    /// is free.
+    /// A round (`Desk::round`) under the lock. Wakes the outlets that were told something, once the lock is free.
     pub fn turn(&self, rt: &impl Wait, alloc: Global) -> Result<Turned, AllocError> {
-        let (turned, told) = self.turn_locked(rt, alloc)?;
-        self.write_told(alloc, told);
+        let (turned, with_output) = self.turn_locked(rt, alloc)?;
+        self.write_output(alloc, with_output);
         Ok(turned)
     }
 
@@ -103,7 +102,7 @@ impl<K: DeskName, S: BuildHasher + Drop> Shared<K, S> {
     /// It waits for nobody but `writer`. Where another thread has the lock, that one makes rounds until one makes no
     /// step once it is free, and none is counted here. `AllocError` comes only where memory is refused for an event and
     /// no round made a step.
-    pub fn turns<T: WriteTold>(
+    pub fn turns<T: WriteOutput>(
         &self,
         alloc: Global,
         wanted: u32,
@@ -126,9 +125,9 @@ impl<K: DeskName, S: BuildHasher + Drop> Shared<K, S> {
                 return Ok(turns);
             };
             let made = rounds(desk, alloc, left.min(most), &mut turns);
-            let told = self.told_by(desk, alloc);
+            let with_output = self.outlets_with_output(desk, alloc);
             drop(guard);
-            writer.write_told(alloc, told);
+            writer.write_output(alloc, with_output);
             self.note_memory(&made);
             left = match made {
                 Ok(made) if made.is_all => left.saturating_sub(most),
@@ -185,7 +184,7 @@ impl<K: DeskName, S: BuildHasher + Drop> Shared<K, S> {
         &self,
         rt: &impl Wait,
         alloc: Global,
-    ) -> Result<(Turned, ToldOutlets), AllocError> {
+    ) -> Result<(Turned, OutletSet), AllocError> {
         let mut guard = self.desk.lock(rt);
         let desk = &mut *guard;
         if self.is_journal_lost() {
@@ -195,11 +194,11 @@ impl<K: DeskName, S: BuildHasher + Drop> Shared<K, S> {
                     held: 0,
                     refused: 0,
                 },
-                ToldOutlets::of_bits(0),
+                OutletSet::of_bits(0),
             ));
         }
         let turned = desk.round(alloc)?;
-        Ok((turned, self.told_by(desk, alloc)))
+        Ok((turned, self.outlets_with_output(desk, alloc)))
     }
 
     /// How many rounds are made under one lock at most; none any more where the journal is lost.
@@ -217,16 +216,16 @@ impl<K: DeskName, S: BuildHasher + Drop> Shared<K, S> {
     /// Has what was stepped in the journal, where there is one, and gives the outlets that were told something that
     /// isn't to wait. None where it couldn't be kept: then nobody has it yet. Where memory was refused for it, it is
     /// tried again; where the file failed, never.
-    fn told_by(&self, desk: &mut Desk<K, S>, alloc: Global) -> ToldOutlets {
+    fn outlets_with_output(&self, desk: &mut Desk<K, S>, alloc: Global) -> OutletSet {
         match desk.keep(alloc) {
-            Ok(()) => ToldOutlets::of_bits(desk.take_rung()),
+            Ok(()) => OutletSet::of_bits(desk.take_prompt()),
             Err(LogFault::NoMemory) => {
                 let _ = self.wanted.swap(true, Ordering::SeqCst);
-                ToldOutlets::of_bits(0)
+                OutletSet::of_bits(0)
             }
             Err(LogFault::Failed | LogFault::Ended) => {
                 self.is_lost.store(true, Ordering::SeqCst);
-                ToldOutlets::of_bits(0)
+                OutletSet::of_bits(0)
             }
         }
     }
@@ -275,9 +274,8 @@ impl<K: DeskName, S: BuildHasher + Drop> Shared<K, S> {
         replay(desk, alloc, stopped, is_later, inlets, outlets)
     }
 
-    /// Puts an event through the inlet of its source, makes a round, and lets go what it told: nobody's bell rings. For
-    /// who steps what is missing before anybody is served. `false` where there is no such inlet, or the round made no
-    /// step.
+    /// Puts an event through the inlet of its source, makes a round, and lets go what it told: nobody is woken. For who
+    /// steps what is missing before anybody is served. `false` where there is no such inlet, or the round made no step.
     pub fn step_alone(
         &self,
         rt: &impl Wait,
@@ -294,8 +292,8 @@ impl<K: DeskName, S: BuildHasher + Drop> Shared<K, S> {
         let mut guard = self.desk.lock(rt);
         let desk = &mut *guard;
         let turned = desk.round(alloc)?;
-        let prompt = self.told_by(desk, alloc);
-        let waiting = ToldOutlets::of_bits(desk.take_waiting());
+        let prompt = self.outlets_with_output(desk, alloc);
+        let waiting = OutletSet::of_bits(desk.take_waiting());
         let_go(outlets, prompt.and(waiting));
         Ok(turned.steps != 0)
     }
@@ -308,11 +306,11 @@ impl<K: DeskName, S: BuildHasher + Drop> Shared<K, S> {
         desk.drop_older();
     }
 
-    /// Rings the bells of the outlets that were told something that may wait, and nothing since that isn't to
-    /// (`Side::tell`), once the lock could be had: their writers write it.
-    pub fn ring_waiting(&self, rt: &impl Wait) {
+    /// Wakes the outlets that were told something that may wait, and nothing since that isn't to (`Side::send`), once
+    /// the lock could be had: their writers write it.
+    pub fn wake_waiting(&self, rt: &impl Wait) {
         let waiting = self.take_waiting(rt);
-        self.ring_each(waiting);
+        self.wake_each(waiting);
     }
 
     /// Makes the rounds that are wanted, where some are: a thread may have found the lock taken by one that makes none,
@@ -325,36 +323,36 @@ impl<K: DeskName, S: BuildHasher + Drop> Shared<K, S> {
     }
 
     /// The outlets that were told something that may wait, once the lock could be had.
-    fn take_waiting(&self, rt: &impl Wait) -> ToldOutlets {
+    fn take_waiting(&self, rt: &impl Wait) -> OutletSet {
         let mut guard = self.desk.lock(rt);
         let desk = &mut *guard;
-        ToldOutlets::of_bits(desk.take_waiting())
+        OutletSet::of_bits(desk.take_waiting())
     }
 
-    /// Waits until an outlet's bell rings, at most so long; it may wait less. A bell that rang since the last wait ends
-    /// this one at once. One thread at a time waits for a bell.
+    /// Waits until an outlet is woken, at most so long; it may wait less. Where it was woken since the last wait, this
+    /// one ends at once. One thread at a time waits for an outlet.
     pub fn nap(&self, rt: &impl Wait, outlet: usize, most: Duration) {
-        if let Some(bell) = self.bells.get(outlet) {
-            bell.park_timeout(rt, most);
+        if let Some(waker) = self.wakers.get(outlet) {
+            waker.park_timeout(rt, most);
         }
     }
 
-    /// Rings an outlet's bell.
-    pub fn ring(&self, outlet: usize) {
-        if let Some(bell) = self.bells.get(outlet) {
-            bell.unpark();
+    /// Wakes who waits for an outlet.
+    pub fn wake(&self, outlet: usize) {
+        if let Some(waker) = self.wakers.get(outlet) {
+            waker.unpark();
         }
     }
 
-    /// Rings the bells of these outlets, the last one's first: ports stand behind clients, and what a port is told is
-    /// what its market waits for.
-    fn ring_each(&self, told: ToldOutlets) {
-        if told.is_empty() {
+    /// Wakes these outlets, the last one first: ports stand behind clients, and what a port is told is what its market
+    /// waits for.
+    fn wake_each(&self, with_output: OutletSet) {
+        if with_output.is_empty() {
             return;
         }
-        for at in (0..self.bells.len()).rev() {
-            if told.contains(at) {
-                self.ring(at);
+        for at in (0..self.wakers.len()).rev() {
+            if with_output.contains(at) {
+                self.wake(at);
             }
         }
     }
@@ -408,7 +406,7 @@ impl<K: DeskName, S: BuildHasher + Drop> Shared<K, S> {
         ensures holds { IfOk result (λ closed. Holds closed.settings (turns closed.history)) }
         ensures settled { IfOk result (λ closed. AreSettled finished.items closed.history) }
         ensures named { IfOk result (λ closed. AreNamed K.inlets closed.history.events) }
-        ensures told { IfOk result (λ closed. ToldIsKept finished.items closed.journal) }
+        ensures output { IfOk result (λ closed. OutputIsKept finished.items closed.journal) }
         ensures ended { IfOk result (λ closed. closed.lost ≡ None → IsEnded closed.history closed.journal) }
         ensures err { IfErr result (λ e. e.2.items ≡ finished.items) }
     {
@@ -417,24 +415,24 @@ impl<K: DeskName, S: BuildHasher + Drop> Shared<K, S> {
             wanted: _,
             is_refused: _,
             is_lost: _,
-            bells,
+            wakers,
         } = self;
         let mut desk = desk.into_inner();
         let mut finished = finished;
         match desk.settle(alloc, &mut finished) {
             Ok(()) => match desk.close(alloc) {
                 Ok(closed) => Ok(closed),
-                Err(desk) => Err((AllocError, Shared::new(desk, bells), finished)),
+                Err(desk) => Err((AllocError, Shared::new(desk, wakers), finished)),
             },
-            Err(error) => Err((error, Shared::new(desk, bells), finished)),
+            Err(error) => Err((error, Shared::new(desk, wakers), finished)),
         }
     }
 }
 
-impl<K: DeskName, S: BuildHasher + Drop> WriteTold for Shared<K, S> {
-    /// Rings their bells: their writers write it.
-    fn write_told(&self, _alloc: Global, told: ToldOutlets) {
-        self.ring_each(told);
+impl<K: DeskName, S: BuildHasher + Drop> WriteOutput for Shared<K, S> {
+    /// Wakes them: their writers write it.
+    fn write_output(&self, _alloc: Global, with_output: OutletSet) {
+        self.wake_each(with_output);
     }
 }
 

@@ -1,6 +1,5 @@
--- An outlet's pen may be shared, and an inlet's gate may go to another thread, since what the threads share of a desk
--- may
--- be shared.
+-- An outlet's writer may be shared, and an inlet's gate may go to another thread, since what the threads share of a
+-- desk may be shared.
 use denote.RattleType.{RattleType}
 use denote.Ref.{NamedLft}
 use denote.Param.Send.{IsSend, IsSync, sendable}
@@ -11,14 +10,14 @@ use Rattle.std.specs.declared.io.Write as Write
 use Rattle.std.proofs.Crossing.{crosses}
 use Rattle.gate_workers.specs.link_io.declared.streams.Prompt as Prompt
 use Rattle.gate_workers.specs.link_io.declared.gate.Gate as Gate
-use Rattle.desk_gates.specs.declared.outlet_pen.OutletEnd as OutletEnd
-use Rattle.gate_workers.proofs.Sent.{pen_sync}
+use Rattle.desk_gates.specs.declared.outlet_writer.OutletEnd as OutletEnd
+use Rattle.gate_workers.proofs.Sent.{shared_writer_sync}
 use Rattle.desk.proofs.Sent.{inlet_send, outlet_send, shared_sync}
-use Rattle.desk.specs.desk_ends.declared.name.DeskName as DeskName
+use Rattle.desk.specs.desk_rings.declared.name.DeskName as DeskName
 use Rattle.desk_gates.specs.contracts.inlet.InletGate as InletGate
 use Rattle.desk_gates.specs.contracts.outlet.OutletGate as OutletGate
-use Rattle.desk_gates.specs.contracts.outlet_pen.OutletPen as OutletPen
-use Rattle.desk_gates.specs.contracts.told_pens.ToldPens as ToldPens
+use Rattle.desk_gates.specs.contracts.outlet_writer.OutletWriter as OutletWriter
+use Rattle.desk_gates.specs.contracts.outlet_writers.OutletWriters as OutletWriters
 
 module _ (K S T : RattleType) (k : DeskName.Ghosts K.Denot) (g : BuildHasher.Ghosts S.Denot T.Denot)
     (h : Hasher.Ghosts T.Denot) (ss : IsSend S) where
@@ -36,23 +35,23 @@ module _ (K S T : RattleType) (k : DeskName.Ghosts K.Denot) (g : BuildHasher.Gho
 
 module _ (W G : RattleType) (p : Prompt.Ghosts W.Denot) (w : Write.Ghosts W.Denot) (e : OutletEnd.Ghosts G.Denot)
     (t : Gate.Ghosts G.Denot) (sw : IsSend W) (sg : IsSend G) where
-  pub outlet_pen_sync : IsSync (OutletPen.the_row W G p w e t)
-  outlet_pen_sync = declared_sync (OutletPen.the_type W G p w e t)
-      (search (sendable, crosses) depth 40, (search (pen_sync, sw, sg, sendable) depth 40, tt))
+  pub outlet_writer_sync : IsSync (OutletWriter.the_row W G p w e t)
+  outlet_writer_sync = declared_sync (OutletWriter.the_type W G p w e t)
+      (search (sendable, crosses) depth 40, (search (shared_writer_sync, sw, sg, sendable) depth 40, tt))
 
   module _ (K S T : RattleType) (k : DeskName.Ghosts K.Denot) (g : BuildHasher.Ghosts S.Denot T.Denot)
       (h : Hasher.Ghosts T.Denot) (ss : IsSend S) where
-    told_pens_send : (q a : NamedLft) → IsSend (ToldPens.the_row q a W G K S T p w e t k g h)
-    told_pens_send q a = let shared = shared_sync K S T k g h ss in declared_send
-        (ToldPens.the_type q a W G K S T p w e t k g h)
-        (search (shared, sendable) depth 40, (search (outlet_pen_sync, sendable, crosses) depth 40, tt))
+    outlet_writers_send : (q a : NamedLft) → IsSend (OutletWriters.the_row q a W G K S T p w e t k g h)
+    outlet_writers_send q a = let shared = shared_sync K S T k g h ss in declared_send
+        (OutletWriters.the_type q a W G K S T p w e t k g h)
+        (search (shared, sendable) depth 40, (search (outlet_writer_sync, sendable, crosses) depth 40, tt))
 
     pub inlet_gate_send : (q a : NamedLft) → IsSend (InletGate.the_row q a W G K S T p w e t k g h)
     inlet_gate_send q a = let shared = shared_sync K S T k g h ss in declared_send
         (InletGate.the_type q a W G K S T p w e t k g h) (
           search (shared, sendable) depth 40,
           (
-            search (told_pens_send, sendable) depth 40,
+            search (outlet_writers_send, sendable) depth 40,
             (search (inlet_send, sendable) depth 40, (search sendable depth 40, tt)),
           ),
         )

@@ -1,9 +1,10 @@
 //! A reader's handle to the desk.
 
-use crate::outlet_pen::{OutletEnd, OutletPen};
-use crate::told_pens::ToldPens;
+use crate::outlet_writer::{OutletEnd, OutletWriter};
+use crate::outlet_writers::OutletWriters;
 use desk::{DeskName, Finished, Inlet, Shared};
-use gate_workers::{Event, Gate, LinkOut, Prompt, ShortList};
+use gate_events::{Event, LinkOut, ShortList};
+use link_io::{Gate, Prompt};
 use std::alloc::{AllocError, Global};
 use std::hash::{BuildHasher, BuildHasherDefault, FoldHasher};
 use std::sync::Wait;
@@ -12,8 +13,8 @@ use std::sync::Wait;
 const MOST_TURNS: u32 = 1_024;
 
 /// The handle of a reader, or of the ticker: puts events through an inlet, and steps the desk once for each event that
-/// was put, until a turn steps nothing. What these turns produced for other links it writes by their pens, if these are
-/// idle; else it wakes their writers. Nothing is taken through it.
+/// was put, until a turn steps nothing. What these turns produced for other links it writes through their outlets'
+/// writers, if these are idle; else it wakes the threads that write. Nothing is taken through it.
 #[derive(Drop)]
 pub struct InletGate<
     'p,
@@ -24,7 +25,7 @@ pub struct InletGate<
     S: BuildHasher + Drop = BuildHasherDefault<FoldHasher>,
 > {
     shared: &'a Shared<K, S>,
-    pens: ToldPens<'p, 'a, W, G, K, S>,
+    outlet_writers: OutletWriters<'p, 'a, W, G, K, S>,
     inlet: Inlet<K>,
     /// The events that were put, less the turns that were made: never more than `MOST_TURNS`.
     owed: u32,
@@ -39,19 +40,19 @@ impl<'p, 'a, W: Prompt + Drop, G: OutletEnd + Drop, K: DeskName, S: BuildHasher 
     S,
 > {
     ghost use Rattle.std.specs.Prelude.{◌≡◌, IfSome};
-    ghost use Rattle.desk.specs.desk_ends.Rings.{put_at};
+    ghost use Rattle.desk.specs.desk_rings.Rings.{put_at};
 
-    /// The handle over an inlet of this desk, with the pens of its outlets, by position. Takes no memory.
+    /// The handle over an inlet of this desk, with the writers of its outlets, by position. Takes no memory.
     pub fn new(
         shared: &'a Shared<K, S>,
-        pens: &'p [OutletPen<W, G>],
+        outlet_writers: &'p [OutletWriter<W, G>],
         inlet: Inlet<K>,
     ) -> InletGate<'p, 'a, W, G, K, S>
         ensures { result.inlet ≡ inlet }
     {
         InletGate {
             shared,
-            pens: ToldPens::new(shared, pens),
+            outlet_writers: OutletWriters::new(shared, outlet_writers),
             inlet,
             owed: 0,
         }
@@ -63,7 +64,7 @@ impl<'p, 'a, W: Prompt + Drop, G: OutletEnd + Drop, K: DeskName, S: BuildHasher 
     {
         let InletGate {
             shared: _,
-            pens: _,
+            outlet_writers: _,
             inlet,
             owed: _,
         } = self;
@@ -101,14 +102,16 @@ impl<'p, 'a, W: Prompt + Drop, G: OutletEnd + Drop, K: DeskName, S: BuildHasher 
     /// they produced. If another thread has the desk's lock, that one does so (`Shared::turns`); nothing is waited for
     /// but a prompt write.
     fn turn<R: Wait>(&mut self, _rt: &R, alloc: Global) -> Result<u32, AllocError> {
-        let turns = self.shared.turns(alloc, self.owed.max(1), &self.pens)?;
+        let turns = self
+            .shared
+            .turns(alloc, self.owed.max(1), &self.outlet_writers)?;
         self.owed = self.owed.saturating_sub(turns.rounds);
         Ok(turns.steps)
     }
 
     /// Wakes the writer of its client's or port's outlet.
     fn wake_writer(&self) {
-        self.shared.ring(self.inlet.position());
+        self.shared.wake(self.inlet.position());
     }
 
     /// Nothing comes out of an inlet, so nobody waits for what lies there.

@@ -1,19 +1,14 @@
-//! A desk's ends as the threads of links see them: a reader's handle, a writer's handle in its pen, and a writer's
-//! clock, whose pause ends when its outlet's bell rings.
+//! A desk's ends as the threads of links see them: a reader's handle, a writer's handle in its shared writer, and a
+//! writer's clock, whose pause ends when its outlet is woken.
 #![tactic(auto)]
 
-mod bell;
 mod inlet;
 mod outlet;
-mod outlet_pen;
-mod told_pens;
+mod outlet_writer;
+mod outlet_writers;
+mod waker;
 
-pub use bell::BellClock;
-pub use desk::{
-    Closed, DeskName, Finished, HostFile, Inlet, OpenLink, Outlet, Parts, ReplayFault, Replayed,
-    Shared, StoppedLog, ToldOutlets, open_desk,
-};
-pub use gate_workers::{Clock, Gate, Prompt};
 pub use inlet::InletGate;
 pub use outlet::OutletGate;
-pub use outlet_pen::{OutletEnd, OutletPen};
+pub use outlet_writer::{OutletEnd, OutletWriter};
+pub use waker::WakerClock;

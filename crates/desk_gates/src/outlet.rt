@@ -2,9 +2,10 @@
 
 ghost use Rattle.desk_gates.specs.Since.{Earlier};
 
-use crate::outlet_pen::OutletEnd;
+use crate::outlet_writer::OutletEnd;
 use desk::{DeskName, Finished, Outlet, Recipient, Shared, more_places};
-use gate_workers::{Event, Gate, LinkOut, ShortList};
+use gate_events::{Event, LinkOut, ShortList};
+use link_io::Gate;
 use std::alloc::{AllocError, Global};
 use std::hash::{BuildHasher, BuildHasherDefault, FoldHasher};
 use std::snapshot::Snapshot;
@@ -37,7 +38,7 @@ pub struct OutletGate<'a, K: DeskName, S: BuildHasher + Drop = BuildHasherDefaul
 
 impl<'a, K: DeskName, S: BuildHasher + Drop> OutletGate<'a, K, S> {
     ghost use Rattle.std.specs.Prelude.{◌≡◌, []};
-    ghost use Rattle.desk.specs.desk_ends.Rings.{took_at};
+    ghost use Rattle.desk.specs.desk_rings.Rings.{took_at};
     ghost use Rattle.desk_gates.specs.Since.{took_since};
 
     /// The handle over an outlet of this desk. What was taken before isn't taken through it. Takes no memory.
@@ -88,7 +89,7 @@ impl<'a, K: DeskName, S: BuildHasher + Drop> Gate for OutletGate<'a, K, S> {
     }
 
     fn take(&mut self) -> Option<ShortList<LinkOut>> {
-        let Some(told) = self.outlet.take() else {
+        let Some(output) = self.outlet.take() else {
             self.in_a_row = 0;
             if self.is_behind_long {
                 self.is_behind_long = false;
@@ -96,13 +97,13 @@ impl<'a, K: DeskName, S: BuildHasher + Drop> Gate for OutletGate<'a, K, S> {
             }
             return None;
         };
-        self.is_behind_long = self.is_behind_long || more_places(&told) > 0;
+        self.is_behind_long = self.is_behind_long || more_places(&output) > 0;
         self.in_a_row = self.in_a_row.saturating_add(1);
         if self.in_a_row >= FULL {
             self.in_a_row = 0;
             self.owed = FULL;
         }
-        Some(told.into_outs())
+        Some(output.into_outs())
     }
 
     /// Turns the desk once if a turn is owed; where that steps nothing, nothing waits, and none is owed any more. It
@@ -127,7 +128,7 @@ impl<'a, K: DeskName, S: BuildHasher + Drop> Gate for OutletGate<'a, K, S> {
 }
 
 impl<'a, K: DeskName, S: BuildHasher + Drop> OutletEnd for OutletGate<'a, K, S> {
-    ghost told = { λ g. g.outlet.to };
+    ghost output_for = { λ g. g.outlet.to };
 
     fn recipient(&self) -> Recipient {
         self.outlet.recipient()

@@ -1,1 +1,5 @@
+pub mod Places
+pub mod Naming
+pub mod Sent
+pub mod Sizes
 mod Rows

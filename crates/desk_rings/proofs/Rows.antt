@@ -6,10 +6,10 @@ use Rattle.std.proofs.lemmas.List.{map-append, take_more}
 use Rattle.std.proofs.lemmas.List.Elements.{All-append}
 use Rattle.gate_events.specs.declared.source.Source.{Source}
 use Rattle.gate_events.specs.declared.source.Recipient.{Recipient}
-use Rattle.desk_ends.specs.Seats.{SeatState, WayState, seat_name, way_name}
+use Rattle.desk_rings.specs.CoreEnds.{InletConsumerState, OutletProducerState, consumer_name, producer_name}
 use Rattle.desk_rings.specs.declared.rings.EventRing.{EventRing}
-use Rattle.desk_rings.specs.declared.rings.ToldRing.{ToldRing}
-use Rattle.desk_rings.specs.Made.{IsFreshEvents, IsFreshLists, IsFreshSeat, IsFreshWay, MadeEvents, MadeLists}
+use Rattle.desk_rings.specs.declared.rings.OutputRing.{OutputRing}
+use Rattle.desk_rings.specs.Made.{IsFreshEvents, IsFreshLists, IsFreshConsumer, IsFreshProducer, MadeEvents, MadeLists}
 use Rattle.desk_rings.specs.Made.{inlet_name, outlet_name}
 
 all-one : {A : Type 0} (P : A → Type 0) (y : A) → P y → All P (y ∷ [])
@@ -24,31 +24,34 @@ sources-more : {X : Type 0} (xs : List X) (i : ℕ) (x : X) → i < length xs �
     → take i xs ++ x ∷ [] ≡ take (i + 1) xs
 sources-more xs i x inside is = ap (λ y. take i xs ++ y ∷ []) is ∙ sym (take_more xs i x inside)
 
-pub events-more : (sources : List Source) (i : ℕ) (source : Source) (rings : List EventRing) (seats : List SeatState)
-    (ring : EventRing) (seat : SeatState)
-    → i < length sources → source ≡ get_or sources i source → MadeEvents (take i sources) rings seats
-    → ring.source ≡ source → inlet_name ring ≡ seat_name seat → IsFreshEvents ring → IsFreshSeat seat
-    → MadeEvents (take (i + 1) sources) (rings ++ ring ∷ []) (seats ++ seat ∷ [])
-events-more sources i source rings seats ring seat inside is made own name fresh unread = record {
+pub events-more : (sources : List Source) (i : ℕ) (source : Source) (rings : List EventRing)
+    (consumers : List InletConsumerState)
+    (ring : EventRing) (consumer : InletConsumerState)
+    → i < length sources → source ≡ get_or sources i source → MadeEvents (take i sources) rings consumers
+    → ring.source ≡ source → inlet_name ring ≡ consumer_name consumer → IsFreshEvents ring → IsFreshConsumer consumer
+    → MadeEvents (take (i + 1) sources) (rings ++ ring ∷ []) (consumers ++ consumer ∷ [])
+events-more sources i source rings consumers ring consumer inside is made own name fresh unread = record {
   sources_are = one-more (λ (r : EventRing). r.source) rings ring (take i sources) source made.sources_are own
       ∙ sources-more sources i source inside is;
-  names = one-more inlet_name rings ring (map seat_name seats) (seat_name seat) made.names name
-      ∙ sym (map-append seat_name seats (seat ∷ []));
+  names = one-more inlet_name rings ring (map consumer_name consumers) (consumer_name consumer) made.names name
+      ∙ sym (map-append consumer_name consumers (consumer ∷ []));
   fresh = All-append IsFreshEvents rings (ring ∷ []) made.fresh (all-one IsFreshEvents ring fresh);
-  unread = All-append IsFreshSeat seats (seat ∷ []) made.unread (all-one IsFreshSeat seat unread);
+  unread = All-append IsFreshConsumer consumers (consumer ∷ []) made.unread (all-one IsFreshConsumer consumer unread);
 }
 
-pub lists-more : (recipients : List Recipient) (i : ℕ) (to : Recipient) (ways : List WayState) (rings : List ToldRing)
-    (way : WayState) (ring : ToldRing)
-    → i < length recipients → to ≡ get_or recipients i to → MadeLists (take i recipients) ways rings
-    → way.name.to ≡ to → way_name way ≡ outlet_name ring → IsFreshWay way → IsFreshLists ring
-    → MadeLists (take (i + 1) recipients) (ways ++ way ∷ []) (rings ++ ring ∷ [])
-lists-more recipients i to ways rings way ring inside is made own name fresh unread = record {
-  recipients_are = one-more (λ (w : WayState). w.name.to) ways way (take i recipients) to made.recipients_are own
+pub lists-more : (recipients : List Recipient) (i : ℕ) (to : Recipient) (producers : List OutletProducerState)
+    (rings : List OutputRing)
+    (producer : OutletProducerState) (ring : OutputRing)
+    → i < length recipients → to ≡ get_or recipients i to → MadeLists (take i recipients) producers rings
+    → producer.name.to ≡ to → producer_name producer ≡ outlet_name ring → IsFreshProducer producer → IsFreshLists ring
+    → MadeLists (take (i + 1) recipients) (producers ++ producer ∷ []) (rings ++ ring ∷ [])
+lists-more recipients i to producers rings producer ring inside is made own name fresh unread = record {
+  recipients_are = one-more (λ (w : OutletProducerState). w.name.to) producers producer
+      (take i recipients) to made.recipients_are own
       ∙ sources-more recipients i to inside is;
-  names = one-more way_name ways way (map outlet_name rings) (outlet_name ring) made.names name
+  names = one-more producer_name producers producer (map outlet_name rings) (outlet_name ring) made.names name
       ∙ sym (map-append outlet_name rings (ring ∷ []));
-  fresh = All-append IsFreshWay ways (way ∷ []) made.fresh (all-one IsFreshWay way fresh);
+  fresh = All-append IsFreshProducer producers (producer ∷ []) made.fresh (all-one IsFreshProducer producer fresh);
   unread = All-append IsFreshLists rings (ring ∷ []) made.unread (all-one IsFreshLists ring unread);
 }
 

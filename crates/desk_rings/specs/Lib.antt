@@ -1,2 +1,6 @@
+pub mod Rings
+pub mod Sizes
+pub mod CoreEnds
+pub mod Ends
 pub mod Made
-pub use Rattle.desk_ends.specs.Rings
+pub use Rattle.gate_events.specs.Sources

@@ -1,11 +1,13 @@
 //! The ends of a desk's queues, handed out by position.
 
 ghost use Rattle.std.specs.Prelude.{◌≡◌, ℕ, [], All, Some, map, length, slice_get, IfOk};
-ghost use Rattle.desk_ends.specs.Rings.{Putting, Taking};
+ghost use Rattle.desk_rings.specs.Rings.{Putting, Taking};
 ghost use Rattle.desk_rings.specs.Made.{IsFreshEvents, IsFreshLists, inlet_name, outlet_name};
 
-use crate::rings::{EventRing, ToldRing};
-use desk_ends::{DeskName, Inlet, Outlet};
+use crate::inlet::Inlet;
+use crate::name::DeskName;
+use crate::outlet::Outlet;
+use crate::rings::{EventRing, OutputRing};
 use std::alloc::{AllocError, Global};
 use std::collections::VecDeque;
 
@@ -32,7 +34,7 @@ pub fn inlets_of<K: DeskName>(
 /// The outlets of a desk, by position: nothing was taken by them yet.
 pub fn outlets_of<K: DeskName>(
     alloc: Global,
-    rings: VecDeque<ToldRing>,
+    rings: VecDeque<OutputRing>,
 ) -> Result<Vec<Outlet<K>>, AllocError>
     requires named { map outlet_name rings.items ≡ K.outlets }
     requires fresh { All IsFreshLists rings.items }
@@ -60,11 +62,11 @@ fn inlet_at<K: DeskName>(at: usize, ring: EventRing) -> Inlet<K>
 }
 
 /// The outlet of a queue, at its position.
-fn outlet_at<K: DeskName>(at: usize, ring: ToldRing) -> Outlet<K>
+fn outlet_at<K: DeskName>(at: usize, ring: OutputRing) -> Outlet<K>
     requires named { slice_get K.outlets at ≡ Some (outlet_name ring) }
     requires fresh { IsFreshLists ring }
     ensures { (result.at ≡ at) × (result.took ≡ []) }
 {
-    let ToldRing { to, consumer } = ring;
+    let OutputRing { to, consumer } = ring;
     Outlet::new(at, to, consumer)
 }

@@ -3,8 +3,10 @@
 ghost use Rattle.std.specs.Prelude.{IfOk};
 ghost use Rattle.desk_rings.specs.Made.{MadeEvents, MadeLists};
 
-use crate::rings::{EventRing, ToldRing};
-use desk_ends::{Recipient, Seat, Source, Way};
+use crate::inlet_consumer::InletConsumer;
+use crate::outlet_producer::OutletProducer;
+use crate::rings::{EventRing, OutputRing};
+use gate_events::{Recipient, Source};
 use rtrb::RingBuffer;
 use std::alloc::{AllocError, Global};
 use std::collections::VecDeque;
@@ -19,35 +21,35 @@ pub const LISTS: usize = 2_112;
 pub fn event_rings(
     alloc: Global,
     sources: &[Source],
-) -> Result<(VecDeque<EventRing>, Vec<Seat>), AllocError>
+) -> Result<(VecDeque<EventRing>, Vec<InletConsumer>), AllocError>
     ensures { IfOk result (λ r. MadeEvents sources.now r.0.items r.1.items) }
 {
     let mut rings = VecDeque::new(alloc);
-    let mut seats = Vec::new(alloc);
+    let mut consumers = Vec::new(alloc);
     for source in sources {
         let (producer, consumer) = RingBuffer::new(alloc, EVENTS)?;
         rings.push_back(EventRing {
             source: *source,
             producer,
         })?;
-        seats.push(Seat::new(*source, consumer))?;
+        consumers.push(InletConsumer::new(*source, consumer))?;
     }
-    Ok((rings, seats))
+    Ok((rings, consumers))
 }
 
 /// A queue for each recipient, in order: the desk's ends, and the consumer's.
-pub fn told_rings(
+pub fn output_rings(
     alloc: Global,
     recipients: &[Recipient],
-) -> Result<(Vec<Way>, VecDeque<ToldRing>), AllocError>
+) -> Result<(Vec<OutletProducer>, VecDeque<OutputRing>), AllocError>
     ensures { IfOk result (λ r. MadeLists recipients.now r.0.items r.1.items) }
 {
-    let mut ways = Vec::new(alloc);
+    let mut producers = Vec::new(alloc);
     let mut rings = VecDeque::new(alloc);
     for to in recipients {
         let (producer, consumer) = RingBuffer::new(alloc, LISTS)?;
-        ways.push(Way::new(alloc, *to, producer))?;
-        rings.push_back(ToldRing { to: *to, consumer })?;
+        producers.push(OutletProducer::new(alloc, *to, producer))?;
+        rings.push_back(OutputRing { to: *to, consumer })?;
     }
-    Ok((ways, rings))
+    Ok((producers, rings))
 }

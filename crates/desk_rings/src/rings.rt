@@ -1,6 +1,6 @@
 //! The ends of queues that aren't handed out yet.
 
-use desk_ends::{Event, Recipient, Source, Told};
+use gate_events::{Event, Output, Recipient, Source};
 use rtrb::{Consumer, Producer};
 
 /// The end by which a source's events are put.
@@ -12,7 +12,7 @@ pub struct EventRing {
 
 /// The end by which a recipient's output is taken.
 #[derive(Drop)]
-pub struct ToldRing {
+pub struct OutputRing {
     pub to: Recipient,
-    pub consumer: Consumer<Told>,
+    pub consumer: Consumer<Output>,
 }

@@ -3,4 +3,4 @@ mod Arranging
 pub mod Bits
 mod Roomy
 mod Telling
-pub use Rattle.desk_ends.proofs as desk_ends
+pub use Rattle.desk_rings.proofs as desk_rings

@@ -1,14 +1,16 @@
 -- What becomes of lists whose elements changed.
-use Rattle.std.proofs.Common.{◌≡◌, ℕ, zero, suc, ◌+◌, ◌<◌, ◌≤◌, List, [], ◌∷◌, ◌++◌, length, map, Some, slice_get, slice_set}
+use Rattle.std.proofs.Common.{◌≡◌, ℕ, zero, suc, ◌+◌, ◌<◌, ◌≤◌, List, [], ◌∷◌, ◌++◌, length, map, Some, slice_get}
+use Rattle.std.proofs.Common.{slice_set}
 use Rattle.std.proofs.Common.{get_or, refl, ap, sym, ◌∙◌, subst, arith, inl, inr, append_assoc, ◌⊎◌}
 use Rattle.std.proofs.lemmas.Bool.Decides.{eqb_tells}
 use Rattle.std.proofs.lemmas.Option.{slice_get-get_or, slice_get_within}
 use Rattle.std.proofs.lemmas.List.{append-nil}
 use mathlib.Core.List.{IsPrefix}
-use Rattle.desk_ends.specs.Seats.{WayLooked, WayMayRelease, WayMayStage, WayState, WaysLooked, WaysMayRelease}
-use Rattle.desk_ends.specs.Seats.{WaysMayStage}
-use Rattle.desk_ends.proofs.Naming.{way-stays}
-use Rattle.desk_ends.proofs.Places.{each-set, get-inside, get-same, get-set-other, get-set-same, length-set}
+use Rattle.desk_rings.specs.CoreEnds.{ProducerLooked, ProducerMayRelease, ProducerMayStage, OutletProducerState}
+use Rattle.desk_rings.specs.CoreEnds.{ProducersLooked, ProducersMayRelease}
+use Rattle.desk_rings.specs.CoreEnds.{ProducersMayStage}
+use Rattle.desk_rings.proofs.Naming.{producer-stays}
+use Rattle.desk_rings.proofs.Places.{each-set, get-inside, get-same, get-set-other, get-set-same, length-set}
 use Rattle.desk_side.specs.Side.{ChangesAt}
 
 -- what is the same of each element is the same of all
@@ -90,18 +92,20 @@ pub prefix-trans : {A : Type 0} (xs ys zs : List A) → IsPrefix xs ys → IsPre
 prefix-trans xs ys zs p q = (p.0 ++ q.0, sym (append_assoc xs p.0 q.0) ∙ (ap (λ w. w ++ q.0) p.1 ∙ q.1))
 
 -- what lists count for is as it was, or none lies there any more
-abbrev Forgot : WayState → WayState → Type 0
+abbrev Forgot : OutletProducerState → OutletProducerState → Type 0
 Forgot w v = (v.more ≡ w.more) ⊎ ((v.more ≡ 0) × (v.places ≤ v.free))
 
-forgot-twice : (x y z : WayState) → z.places ≡ y.places → y.free ≤ z.free → Forgot x y → Forgot y z → Forgot x z
+forgot-twice : (x y z : OutletProducerState) → z.places ≡ y.places → y.free ≤ z.free → Forgot x y → Forgot y z
+    → Forgot x z
 forgot-twice x y z places free (inl same) (inl is) = inl (is ∙ same)
 forgot-twice x y z places free (inr none) (inl is) = inr (is ∙ none.0, omega (arith, none.1, places, free))
 forgot-twice x y z places free (inl same) (inr is) = inr is
 forgot-twice x y z places free (inr none) (inr is) = inr is
 
 -- looks, one after another
-pub ways-twice : (x y z : List WayState) → WaysLooked x y → WaysLooked y z → WaysLooked x z
-ways-twice x y z p q = record {
+pub producers-twice : (x y z : List OutletProducerState) → ProducersLooked x y → ProducersLooked y z
+    → ProducersLooked x z
+producers-twice x y z p q = record {
   count = q.count ∙ p.count;
   each = λ d w at. let v = p.each d w at in let u = q.each d v.0 v.1 in (
     u.0,
@@ -120,15 +124,16 @@ ways-twice x y z p q = record {
   );
 }
 
--- ---- ways that stage, and that release
+-- ---- producers that stage, and that release
 
-pub way-may-stage : (w : WayState) → WayMayStage w w
-way-may-stage w = (refl, refl, refl, omega arith, refl, λ so. so, refl, refl)
+pub producer-may-stage : (w : OutletProducerState) → ProducerMayStage w w
+producer-may-stage w = (refl, refl, refl, omega arith, refl, λ so. so, refl, refl)
 
-pub ways-may-stage : (ways : List WayState) → WaysMayStage ways ways
-ways-may-stage ways = record { count = refl; each = λ d w at. (w, at, way-may-stage w) }
+pub producers-may-stage : (producers : List OutletProducerState) → ProducersMayStage producers producers
+producers-may-stage producers = record { count = refl; each = λ d w at. (w, at, producer-may-stage w) }
 
-pub stage-twice : (x y z : List WayState) → WaysMayStage x y → WaysMayStage y z → WaysMayStage x z
+pub stage-twice : (x y z : List OutletProducerState) → ProducersMayStage x y → ProducersMayStage y z
+    → ProducersMayStage x z
 stage-twice x y z p q = record {
   count = q.count ∙ p.count;
   each = λ d w at. let v = p.each d w at in let u = q.each d v.0 v.1 in (
@@ -148,13 +153,14 @@ stage-twice x y z p q = record {
   );
 }
 
-pub way-may-release : (w : WayState) → WayMayRelease w w
-way-may-release w = (refl, refl, refl, omega arith, refl, refl, refl)
+pub producer-may-release : (w : OutletProducerState) → ProducerMayRelease w w
+producer-may-release w = (refl, refl, refl, omega arith, refl, refl, refl)
 
-pub ways-may-release : (ways : List WayState) → WaysMayRelease ways ways
-ways-may-release ways = record { count = refl; each = λ d w at. (w, at, way-may-release w) }
+pub producers-may-release : (producers : List OutletProducerState) → ProducersMayRelease producers producers
+producers-may-release producers = record { count = refl; each = λ d w at. (w, at, producer-may-release w) }
 
-pub release-twice : (x y z : List WayState) → WaysMayRelease x y → WaysMayRelease y z → WaysMayRelease x z
+pub release-twice : (x y z : List OutletProducerState) → ProducersMayRelease x y → ProducersMayRelease y z
+    → ProducersMayRelease x z
 release-twice x y z p q = record {
   count = q.count ∙ p.count;
   each = λ d w at. let v = p.each d w at in let u = q.each d v.0 v.1 in (
@@ -172,7 +178,7 @@ release-twice x y z p q = record {
   );
 }
 
--- ---- loops over ways
+-- ---- loops over producers
 
 -- what holds of the first so many and of the next holds of one more
 pub so-far : {A : Type 0} (Q : A → Type 0) (xs : List A) (i : ℕ) (y : A) → i < length xs
@@ -184,34 +190,39 @@ so-far {A} Q xs i y inside before q d w lt at =
       | inr e ↦ before d w (omega (arith, lt, e.1)) (sym (get-set-other xs i d y e.1) ∙ at)
     ]
 
--- one way more looked, may stage, or may release
-pub look-set : (old ways : List WayState) (i : ℕ) (x y : WayState) → WaysLooked old ways → i < length ways
-    → x ≡ get_or ways i x → WayLooked x y → WaysLooked old (slice_set ways i y)
-look-set old ways i x y so inside is look =
-    ways-twice old ways (slice_set ways i y) so
+-- one producer more looked, may stage, or may release
+pub look-set : (old producers : List OutletProducerState) (i : ℕ) (x y : OutletProducerState)
+    → ProducersLooked old producers → i < length producers
+    → x ≡ get_or producers i x → ProducerLooked x y → ProducersLooked old (slice_set producers i y)
+look-set old producers i x y so inside is look =
+    producers-twice old producers (slice_set producers i y) so
     (record {
-      count = length-set ways i y;
+      count = length-set producers i y;
       each =
-          each-set WayLooked ways i x y inside way-stays (subst (λ (z : WayState). WayLooked z y) is look);
+          each-set ProducerLooked producers i x y inside producer-stays
+          (subst (λ (z : OutletProducerState). ProducerLooked z y) is look);
     })
 
-pub stage-set : (old ways : List WayState) (i : ℕ) (x y : WayState) → WaysMayStage old ways → i < length ways
-    → x ≡ get_or ways i x → WayMayStage x y → WaysMayStage old (slice_set ways i y)
-stage-set old ways i x y so inside is stage =
-    stage-twice old ways (slice_set ways i y) so
+pub stage-set : (old producers : List OutletProducerState) (i : ℕ) (x y : OutletProducerState)
+    → ProducersMayStage old producers → i < length producers
+    → x ≡ get_or producers i x → ProducerMayStage x y → ProducersMayStage old (slice_set producers i y)
+stage-set old producers i x y so inside is stage =
+    stage-twice old producers (slice_set producers i y) so
     (record {
-      count = length-set ways i y;
+      count = length-set producers i y;
       each =
-          each-set WayMayStage ways i x y inside way-may-stage (subst (λ (z : WayState). WayMayStage z y) is stage);
+          each-set ProducerMayStage producers i x y inside producer-may-stage
+          (subst (λ (z : OutletProducerState). ProducerMayStage z y) is stage);
     })
 
-pub release-set : (old ways : List WayState) (i : ℕ) (x y : WayState) → WaysMayRelease old ways → i < length ways
-    → x ≡ get_or ways i x → WayMayRelease x y → WaysMayRelease old (slice_set ways i y)
-release-set old ways i x y so inside is release =
-    release-twice old ways (slice_set ways i y) so
+pub release-set : (old producers : List OutletProducerState) (i : ℕ) (x y : OutletProducerState)
+    → ProducersMayRelease old producers → i < length producers
+    → x ≡ get_or producers i x → ProducerMayRelease x y → ProducersMayRelease old (slice_set producers i y)
+release-set old producers i x y so inside is release =
+    release-twice old producers (slice_set producers i y) so
     (record {
-      count = length-set ways i y;
+      count = length-set producers i y;
       each =
-          each-set WayMayRelease ways i x y inside way-may-release
-          (subst (λ (z : WayState). WayMayRelease z y) is release);
+          each-set ProducerMayRelease producers i x y inside producer-may-release
+          (subst (λ (z : OutletProducerState). ProducerMayRelease z y) is release);
     })

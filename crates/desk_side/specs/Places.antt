@@ -14,7 +14,7 @@ source_at clients ports k = if nat_lt k clients then sources.Client (k + 1)
 abbrev pub recipient_at : ℕ → ℕ → Recipient
 recipient_at clients d = if nat_lt d clients then recipients.Client (d + 1) else recipients.Port ((d - clients) + 1)
 
--- the place of the way to a client, and of that to a port
+-- the place of the producer for a client, and of that to a port
 abbrev pub client_place : ℕ → Option ℕ → Option ℕ
 client_place clients None = None
 client_place clients (Some n) = if nat_le 1 n && nat_le n clients then Some (n - 1) else None

@@ -3,13 +3,12 @@
 //! Nothing is stepped here, and no call but `open_side` and `Side::stage` takes memory.
 #![tactic(auto)]
 
+mod batch_output;
 mod opening;
 mod places;
-mod said;
 mod side;
 mod slots;
 
-pub use desk_ends::{DeskName, FOR_MARKETS_AND_TIME, Finished};
+pub use batch_output::BatchOutput;
 pub use opening::open_side;
-pub use said::Said;
 pub use side::Side;

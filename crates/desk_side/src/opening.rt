@@ -7,7 +7,7 @@ ghost use Rattle.desk_side.specs.Opened.{IsOpened};
 ghost use Rattle.desk_side.specs.Places as places;
 
 use crate::side::Side;
-use desk_rings::{EventRing, ToldRing, event_rings, told_rings};
+use desk_rings::{EventRing, OutputRing, event_rings, output_rings};
 use gate_events::{ClientNumber, PortNumber, Recipient, Source};
 use std::alloc::{AllocError, Global};
 use std::collections::VecDeque;
@@ -17,15 +17,19 @@ pub fn open_side(
     alloc: Global,
     clients: usize,
     ports: usize,
-) -> Result<(Side, VecDeque<EventRing>, VecDeque<ToldRing>), AllocError>
+) -> Result<(Side, VecDeque<EventRing>, VecDeque<OutputRing>), AllocError>
     requires few { (clients < 65_535) × (ports < 65_535) }
     ensures { IfOk result (λ r. IsOpened clients ports r.0 r.1.items r.2.items) }
 {
     let sources = sources_of(alloc, clients, ports)?;
     let recipients = recipients_of(alloc, clients, ports)?;
-    let (inlets, seats) = event_rings(alloc, sources.as_slice())?;
-    let (ways, outlets) = told_rings(alloc, recipients.as_slice())?;
-    Ok((Side::new(clients, ports, seats, ways), inlets, outlets))
+    let (inlets, consumers) = event_rings(alloc, sources.as_slice())?;
+    let (producers, outlets) = output_rings(alloc, recipients.as_slice())?;
+    Ok((
+        Side::new(clients, ports, consumers, producers),
+        inlets,
+        outlets,
+    ))
 }
 
 /// The sources of all inlets, by position.

@@ -1,11 +1,11 @@
-//! The places of ways.
+//! The places of producers.
 
 ghost use Rattle.std.specs.Prelude.{◌≡◌, ◌<◌, ◌+◌, ◌^◌};
 ghost use Rattle.desk_side.specs.Places.{client_place, port_place};
 
 use gate_events::{ClientNumber, PortNumber};
 
-/// The place of the way to a client.
+/// The place of the producer for a client.
 pub(crate) fn place_of_client(clients: usize, number: Option<u16>) -> Option<usize>
     ensures { result ≡ client_place clients number }
 {
@@ -13,7 +13,7 @@ pub(crate) fn place_of_client(clients: usize, number: Option<u16>) -> Option<usi
     if place < clients { Some(place) } else { None }
 }
 
-/// The place of the way to a port.
+/// The place of the producer for a port.
 pub(crate) fn place_of_port(clients: usize, ports: usize, number: Option<u16>) -> Option<usize>
     requires few { clients + ports < 2 ^ 64 }
     ensures { result ≡ port_place clients ports number }

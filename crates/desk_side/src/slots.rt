@@ -1,91 +1,102 @@
-//! Calls on the seat or way at a place.
+//! Calls on the consumer or producer at a place.
 
 ghost use Rattle.std.specs.Prelude.{◌≡◌, ◌<◌, ◌≤◌, ◌⊎◌, ℕ, true, false, Some, None, length, slice_get, IfSome, OnOk};
 ghost use Rattle.gate_events.specs.Sources.{unless_empty};
-ghost use Rattle.desk_ends.specs.Seats.{AllReleased, AllStage, SeatState, SeatGave, SeatLooked, WayState, WaySent};
-ghost use Rattle.desk_ends.specs.Seats.{WaysLooked, WaysMayRelease, WaysMayStage, way_room};
+ghost use Rattle.desk_rings.specs.CoreEnds.{AllReleased, AllStage, InletConsumerState, ConsumerGave, ConsumerLooked};
+ghost use Rattle.desk_rings.specs.CoreEnds.{OutletProducerState, ProducerSent};
+ghost use Rattle.desk_rings.specs.CoreEnds.{ProducersLooked, ProducersMayRelease, ProducersMayStage, producer_room};
 ghost use Rattle.desk_side.specs.Side.{AllKnowRoom, ChangesAt};
 
-use desk_ends::{Seat, Way};
-use gate_events::{Event, Told};
+use desk_rings::{InletConsumer, OutletProducer};
+use gate_events::{Event, Output};
 use std::alloc::AllocError;
 
-/// Whether the seat knows of no event, after a look.
-pub(crate) fn is_empty_at(seats: &mut Vec<Seat>, place: usize) -> bool
-    requires inside { place < length seats.old.items }
-    ensures looked { ChangesAt place SeatLooked seats.old.items seats.new.items }
-    ensures none { result ≡ true → (a : SeatState) → slice_get seats.new.items place ≡ Some a → length a.known ≡ 0 }
-    ensures some { result ≡ false → (a : SeatState) → slice_get seats.new.items place ≡ Some a → 0 < length a.known }
+/// Whether the consumer knows of no event, after a look.
+pub(crate) fn is_empty_at(consumers: &mut Vec<InletConsumer>, place: usize) -> bool
+    requires inside { place < length consumers.old.items }
+    ensures looked { ChangesAt place ConsumerLooked consumers.old.items consumers.new.items }
+    ensures none { result ≡ true → (a : InletConsumerState) → slice_get consumers.new.items place ≡ Some a
+        → length a.known ≡ 0 }
+    ensures some { result ≡ false → (a : InletConsumerState) → slice_get consumers.new.items place ≡ Some a
+        → 0 < length a.known }
 {
-    seats[place].is_empty()
+    consumers[place].is_empty()
 }
 
-/// The seat gives its first event.
-pub(crate) fn pop_at(seats: &mut Vec<Seat>, place: usize) -> Event
-    requires inside { place < length seats.old.items }
-    requires some { (a : SeatState) → slice_get seats.old.items place ≡ Some a → 0 < length a.known }
-    ensures { ChangesAt place (SeatGave result) seats.old.items seats.new.items }
+/// The consumer gives its first event.
+pub(crate) fn pop_at(consumers: &mut Vec<InletConsumer>, place: usize) -> Event
+    requires inside { place < length consumers.old.items }
+    requires some { (a : InletConsumerState) → slice_get consumers.old.items place ≡ Some a → 0 < length a.known }
+    ensures { ChangesAt place (ConsumerGave result) consumers.old.items consumers.new.items }
 {
-    seats[place].pop()
+    consumers[place].pop()
 }
 
-/// Whether the way at this place, if there is one, isn't cut and has no room beside `kept_free` places, after a look.
-pub(crate) fn is_full_at(ways: &mut Vec<Way>, place: Option<usize>, kept_free: usize) -> bool
-    requires inside { IfSome place (λ d. d < length ways.old.items) }
-    ensures looked { WaysLooked ways.old.items ways.new.items }
-    ensures full { result ≡ true → (d : ℕ) × (w : WayState) × (place ≡ Some d) × (slice_get ways.new.items d ≡ Some w)
-        × (w.cut ≡ false) × (way_room w ≤ kept_free) }
-    ensures room { result ≡ false → (d : ℕ) (w : WayState) → place ≡ Some d → slice_get ways.new.items d ≡ Some w
-        → (w.cut ≡ true) ⊎ (kept_free < way_room w) }
+/// Whether the producer at this place, if there is one, hasn't overflowed and has no room beside `reserved` places,
+/// after a look.
+pub(crate) fn is_full_at(
+    producers: &mut Vec<OutletProducer>,
+    place: Option<usize>,
+    reserved: usize,
+) -> bool
+    requires inside { IfSome place (λ d. d < length producers.old.items) }
+    ensures looked { ProducersLooked producers.old.items producers.new.items }
+    ensures full { result ≡ true → (d : ℕ) × (w : OutletProducerState) × (place ≡ Some d)
+        × (slice_get producers.new.items d ≡ Some w)
+        × (w.overflowed ≡ false) × (producer_room w ≤ reserved) }
+    ensures room { result ≡ false → (d : ℕ) (w : OutletProducerState) → place ≡ Some d
+        → slice_get producers.new.items d ≡ Some w
+        → (w.overflowed ≡ true) ⊎ (reserved < producer_room w) }
 {
     let Some(place) = place else {
         return false;
     };
-    ways[place].is_full(kept_free)
+    producers[place].is_full(reserved)
 }
 
-/// For how many lists each way that isn't cut has room at least, after a look into each queue.
-pub(crate) fn least_room(ways: &mut Vec<Way>) -> usize
-    ensures looked { WaysLooked ways.old.items ways.new.items }
-    ensures room { AllKnowRoom result ways.new.items }
+/// For how many lists each producer that hasn't overflowed has room at least, after a look into each queue.
+pub(crate) fn least_room(producers: &mut Vec<OutletProducer>) -> usize
+    ensures looked { ProducersLooked producers.old.items producers.new.items }
+    ensures room { AllKnowRoom result producers.new.items }
 {
     let mut least = usize::MAX;
-    for place in 0..ways.len() {
-        least = least.min(ways[place].room());
+    for place in 0..producers.len() {
+        least = least.min(producers[place].room());
     }
     least
 }
 
-/// Puts a list into the queue of the way at this place, if there is one.
-pub(crate) fn send_at(ways: &mut Vec<Way>, place: Option<usize>, told: Told)
-    requires inside { IfSome place (λ d. d < length ways.old.items) }
-    ensures at { (d : ℕ) → place ≡ Some d → ChangesAt d (WaySent (unless_empty told)) ways.old.items ways.new.items }
-    ensures nowhere { place ≡ None → ways.new.items ≡ ways.old.items }
+/// Puts a list into the queue of the producer at this place, if there is one.
+pub(crate) fn send_at(producers: &mut Vec<OutletProducer>, place: Option<usize>, output: Output)
+    requires inside { IfSome place (λ d. d < length producers.old.items) }
+    ensures at { (d : ℕ) → place ≡ Some d → ChangesAt d
+        (ProducerSent (unless_empty output)) producers.old.items producers.new.items }
+    ensures nowhere { place ≡ None → producers.new.items ≡ producers.old.items }
 {
     let Some(place) = place else {
         return;
     };
-    ways[place].send(told);
+    producers[place].send(output);
 }
 
-/// From now on each way stages what it is sent. `AllocError` leaves some of them as they were, and none changed in what
-/// it has.
-pub(crate) fn stage_each(ways: &mut Vec<Way>) -> Result<(), AllocError>
-    ensures same { WaysMayStage ways.old.items ways.new.items }
-    ensures stages { OnOk result (AllStage ways.new.items) }
+/// From now on each producer stages what it is sent. `AllocError` leaves some of them as they were, and none changed in
+/// what it has.
+pub(crate) fn stage_each(producers: &mut Vec<OutletProducer>) -> Result<(), AllocError>
+    ensures same { ProducersMayStage producers.old.items producers.new.items }
+    ensures stages { OnOk result (AllStage producers.new.items) }
 {
-    for place in 0..ways.len() {
-        ways[place].stage()?;
+    for place in 0..producers.len() {
+        producers[place].stage()?;
     }
     Ok(())
 }
 
-/// Moves what is staged for each way into its queue. Takes no memory.
-pub(crate) fn release_each(ways: &mut Vec<Way>)
-    ensures same { WaysMayRelease ways.old.items ways.new.items }
-    ensures all { AllReleased ways.new.items }
+/// Moves what is staged for each producer into its queue. Takes no memory.
+pub(crate) fn release_each(producers: &mut Vec<OutletProducer>)
+    ensures same { ProducersMayRelease producers.old.items producers.new.items }
+    ensures all { AllReleased producers.new.items }
 {
-    for place in 0..ways.len() {
-        ways[place].release();
+    for place in 0..producers.len() {
+        producers[place].release();
     }
 }

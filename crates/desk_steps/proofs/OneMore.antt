@@ -14,14 +14,15 @@ use Rattle.gate_events.specs.declared.source.Source.{Source}
 use Rattle.gate_events.specs.declared.source.Source.TheVariants as sources
 use Rattle.gate_events.specs.declared.source.Recipient.{Recipient}
 use Rattle.gate_events.specs.declared.source.Recipient.TheVariants as recipients
-use Rattle.gate_events.specs.Sources.{events_from, is_from, is_same_source, lists_to, source_of, told_to, unless_empty}
+use Rattle.gate_events.specs.Sources.{events_from, is_from, is_same_source, lists_to, source_of, output_to, unless_empty}
 use Rattle.gate_journal.specs.Kept.{lists_kept}
-use Rattle.desk_side.specs.desk_ends.Rings.{NamedInlet, NamedOutlet}
-use Rattle.desk_side.specs.desk_ends.Seats.{SeatState, SeatGave, WayState, WaySent, seat_name, way_name}
-use Rattle.desk_side.proofs.desk_ends.Naming.{named}
-use Rattle.desk_side.proofs.desk_ends.Places.{get-same}
-use Rattle.desk_side.specs.declared.said.Said.{Said}
-use Rattle.desk_side.specs.Said.{IsSaid, list_for}
+use Rattle.desk_side.specs.desk_rings.Rings.{NamedInlet, NamedOutlet}
+use Rattle.desk_side.specs.desk_rings.CoreEnds.{InletConsumerState, ConsumerGave, OutletProducerState, ProducerSent}
+use Rattle.desk_side.specs.desk_rings.CoreEnds.{consumer_name, producer_name}
+use Rattle.desk_side.proofs.desk_rings.Naming.{named}
+use Rattle.desk_side.proofs.desk_rings.Places.{get-same}
+use Rattle.desk_side.specs.declared.batch_output.BatchOutput.{BatchOutput}
+use Rattle.desk_side.specs.BatchOutput.{IsOutputOf, list_for}
 use Rattle.desk_steps.specs.Agreeing.{Agrees, AreNamed, DeskState, Follows}
 use Rattle.desk_steps.specs.Turning.{Does, RoundIsRefused, Rounds, StepsFirst, Went}
 use Rattle.desk_steps.specs.declared.turned.Turned.{Turned}
@@ -47,28 +48,30 @@ same-source sources.Clock sources.Clock h = refl
 pub lists-append : (to : Recipient) (xs ys : List law.Batch) → lists_to to (xs ++ ys) ≡ lists_to to xs ++ lists_to to ys
 lists-append to [] ys = refl
 lists-append to (x ∷ xs) ys =
-    ap (λ (ls : List (List LinkOut)). unless_empty (told_to to x) ++ ls) (lists-append to xs ys)
-    ∙ sym (append_assoc (unless_empty (told_to to x)) (lists_to to xs) (lists_to to ys))
+    ap (λ (ls : List (List LinkOut)). unless_empty (output_to to x) ++ ls) (lists-append to xs ys)
+    ∙ sym (append_assoc (unless_empty (output_to to x)) (lists_to to xs) (lists_to to ys))
 
 lists-more : (to : Recipient) (xs : List law.Batch) (b : law.Batch)
-    → lists_to to (xs ++ b ∷ []) ≡ lists_to to xs ++ unless_empty (told_to to b)
+    → lists_to to (xs ++ b ∷ []) ≡ lists_to to xs ++ unless_empty (output_to to b)
 lists-more to xs b =
     lists-append to xs (b ∷ [])
-    ∙ ap (λ (ls : List (List LinkOut)). lists_to to xs ++ ls) (append-nil (unless_empty (told_to to b)))
+    ∙ ap (λ (ls : List (List LinkOut)). lists_to to xs ++ ls) (append-nil (unless_empty (output_to to b)))
 
--- what was said is what the batch tells
-pub said-told : (to : Recipient) (b : law.Batch) (s : Said) → IsSaid b s → list_for to s ≡ told_to to b
-said-told (recipients.Client n) b s is = rw (is.0, is.1) refl
-said-told (recipients.Port n) b s is = rw (is.2, is.3) refl
+-- what is sent is what the batch tells
+pub output-listed : (to : Recipient) (b : law.Batch) (s : BatchOutput) → IsOutputOf b s → list_for to s ≡ output_to to b
+output-listed (recipients.Client n) b s is = rw (is.0, is.1) refl
+output-listed (recipients.Port n) b s is = rw (is.2, is.3) refl
 
--- a way to which lists went has sent all that there is now, or a beginning of it
-follows-whole : (lists all : List (List LinkOut)) (w v : WayState) → Follows w all → WaySent lists w v → v.cut ≡ false
+-- a producer to which lists went has sent all that there is now, or a beginning of it
+follows-whole : (lists all : List (List LinkOut)) (w v : OutletProducerState) → Follows w all → ProducerSent lists w v
+    → v.overflowed ≡ false
     → v.sent ≡ all ++ lists
-follows-whole lists all w v f sent uncut = let r = sent.whole uncut in r.1
+follows-whole lists all w v f sent isnt = let r = sent.whole isnt in r.1
     ∙ ap (λ (z : List (List LinkOut)). z ++ lists) (f.1 r.0)
 
-follows-by : (lists all : List (List LinkOut)) (w v : WayState) → Follows w all → WaySent lists w v → (b : Bool)
-    → v.cut ≡ b → Follows v (all ++ lists)
+follows-by : (lists all : List (List LinkOut)) (w v : OutletProducerState) → Follows w all → ProducerSent lists w v
+    → (b : Bool)
+    → v.overflowed ≡ b → Follows v (all ++ lists)
 follows-by lists all w v f sent false is =
     (([], append-nil v.sent ∙ follows-whole lists all w v f sent is), follows-whole lists all w v f sent)
 follows-by lists all w v f sent true is = (
@@ -77,9 +80,9 @@ follows-by lists all w v f sent true is = (
   follows-whole lists all w v f sent,
 )
 
-follows-step : (lists all : List (List LinkOut)) (w v : WayState) → Follows w all → WaySent lists w v
+follows-step : (lists all : List (List LinkOut)) (w v : OutletProducerState) → Follows w all → ProducerSent lists w v
     → Follows v (all ++ lists)
-follows-step lists all w v f sent = follows-by lists all w v f sent v.cut refl
+follows-step lists all w v f sent = follows-by lists all w v f sent v.overflowed refl
 
 get-one-more : {A : Type 0} (xs : List A) (y z : A) (i : ℕ) → slice_get (xs ++ y ∷ []) i ≡ Some z
     → (slice_get xs i ≡ Some z) ⊎ (y ≡ z)
@@ -88,20 +91,22 @@ get-one-more [] y z (suc i) at = absurd (cc at)
 get-one-more (x ∷ xs) y z zero at = inl at
 get-one-more (x ∷ xs) y z (suc i) at = get-one-more xs y z i at
 
-module _ (inlets : List NamedInlet) (outlets : List NamedOutlet) (k : ℕ) (s t : DeskState) (h : Agrees inlets outlets s) (x : StepsFirst k s t) where
-  -- a seat has the name of its place
-  name-of : (i : ℕ) (a : SeatState) → slice_get s.side.seats i ≡ Some a → slice_get inlets i ≡ Some a.name
-  name-of i a at = ap (λ (z : List NamedInlet). slice_get z i) (sym h.seat_names)
-      ∙ (slice_get-map seat_name s.side.seats i ∙ ap (option_map seat_name) at)
+module _ (inlets : List NamedInlet) (outlets : List NamedOutlet) (k : ℕ) (s t : DeskState) (h : Agrees inlets outlets s)
+    (x : StepsFirst k s t) where
+  -- a consumer has the name of its place
+  name-of : (i : ℕ) (a : InletConsumerState) → slice_get s.side.consumers i ≡ Some a → slice_get inlets i ≡ Some a.name
+  name-of i a at = ap (λ (z : List NamedInlet). slice_get z i) (sym h.consumer_names)
+      ∙ (slice_get-map consumer_name s.side.consumers i ∙ ap (option_map consumer_name) at)
 
-  -- seats keep their names
-  seat-moves : (j : ℕ) (a : SeatState) → slice_get s.side.seats j ≡ Some a
-      → (b : SeatState) × (slice_get t.side.seats j ≡ Some b) × (seat_name b ≡ seat_name a)
-  seat-moves = each-change k (SeatGave x.event) (λ a b. seat_name b ≡ seat_name a) s.side.seats t.side.seats x.seats
+  -- consumers keep their names
+  consumer-moves : (j : ℕ) (a : InletConsumerState) → slice_get s.side.consumers j ≡ Some a
+      → (b : InletConsumerState) × (slice_get t.side.consumers j ≡ Some b) × (consumer_name b ≡ consumer_name a)
+  consumer-moves = each-change k (ConsumerGave x.event)
+      (λ a b. consumer_name b ≡ consumer_name a) s.side.consumers t.side.consumers x.consumers
       (λ a b at g. g.0) (λ a. refl)
 
   -- an event of the inlet's own comes out of its ring and is kept
-  from-here : (a b : SeatState) → slice_get s.side.seats k ≡ Some a → SeatGave x.event a b
+  from-here : (a b : InletConsumerState) → slice_get s.side.consumers k ≡ Some a → ConsumerGave x.event a b
       → events_from b.name.source t.recorded.kept.events ≡ events_from b.name.source b.gave
   from-here a b at g =
       subst (λ (n : NamedInlet). events_from n.source t.recorded.kept.events ≡ events_from n.source b.gave) (sym g.0)
@@ -112,49 +117,51 @@ module _ (inlets : List NamedInlet) (outlets : List NamedOutlet) (k : ℕ) (s t 
       ∙ ap (events_from a.name.source) (sym g.1)))))
 
   -- it is none of another's
-  from-there : (j : ℕ) (b : SeatState) → j ≢ k → slice_get s.side.seats j ≡ Some b
+  from-there : (j : ℕ) (b : InletConsumerState) → j ≢ k → slice_get s.side.consumers j ≡ Some b
       → events_from b.name.source t.recorded.kept.events ≡ events_from b.name.source b.gave
   from-there j b ne there =
-      let own : source_of x.event ≡ x.seat.name.source = same-source (source_of x.event) x.seat.name.source x.own in
-      let apart : is_same_source x.seat.name.source b.name.source ≡ false =
-      h.apart k j x.seat.name b.name (name-of k x.seat x.there) (name-of j b there) (λ e. ne (sym e)) in
+      let own : source_of x.event ≡ x.consumer.name.source =
+      same-source (source_of x.event) x.consumer.name.source x.own in
+      let apart : is_same_source x.consumer.name.source b.name.source ≡ false =
+      h.apart k j x.consumer.name b.name (name-of k x.consumer x.there) (name-of j b there) (λ e. ne (sym e)) in
       let no : is_from b.name.source x.event ≡ false =
       subst (λ (z : Source). is_same_source z b.name.source ≡ false) (sym own) apart in
       ap (events_from b.name.source) x.step.events
       ∙ (not-own b.name.source x.event s.recorded.kept.events no ∙ h.from_all j b there)
 
-  from-more : (j : ℕ) (b : SeatState) → slice_get t.side.seats j ≡ Some b
+  from-more : (j : ℕ) (b : InletConsumerState) → slice_get t.side.consumers j ≡ Some b
       → events_from b.name.source t.recorded.kept.events ≡ events_from b.name.source b.gave
   from-more j b at =
       elim (eqb_tells j k) [
         | inl q ↦ (
-            let r = x.seats.there x.seat x.there in
-            let same : r.0 ≡ b = get-same t.side.seats k r.0 b r.1 (rw (← q.1) at) in
-            from-here x.seat b x.there (subst (SeatGave x.event x.seat) same r.2)
+            let r = x.consumers.there x.consumer x.there in
+            let same : r.0 ≡ b = get-same t.side.consumers k r.0 b r.1 (rw (← q.1) at) in
+            from-here x.consumer b x.there (subst (ConsumerGave x.event x.consumer) same r.2)
             )
-        | inr q ↦ from-there j b q.1 (sym (x.seats.others j q.1) ∙ at)
+        | inr q ↦ from-there j b q.1 (sym (x.consumers.others j q.1) ∙ at)
       ]
 
-  way-moves : (d : ℕ) (w : WayState) → slice_get s.side.ways d ≡ Some w
-      → (v : WayState) × (slice_get t.side.ways d ≡ Some v) × (way_name v ≡ way_name w)
-  way-moves d w at = let r = x.ways.each d w at in (r.0, r.1, r.2.name)
+  producer-moves : (d : ℕ) (w : OutletProducerState) → slice_get s.side.producers d ≡ Some w
+      → (v : OutletProducerState) × (slice_get t.side.producers d ≡ Some v) × (producer_name v ≡ producer_name w)
+  producer-moves d w at = let r = x.producers.each d w at in (r.0, r.1, r.2.name)
 
-  to-more : (d : ℕ) (v : WayState) → slice_get t.side.ways d ≡ Some v → Follows v (lists_kept v.name.to t.recorded.kept)
+  to-more : (d : ℕ) (v : OutletProducerState) → slice_get t.side.producers d ≡ Some v
+      → Follows v (lists_kept v.name.to t.recorded.kept)
   to-more d v at =
-      let w = was s.side.ways t.side.ways d v x.ways.count at in
-      let r = x.ways.each d w.0 w.1 in
-      let same : r.0 ≡ v = get-same t.side.ways d r.0 v r.1 at in
-      let sent : WaySent (unless_empty (list_for w.0.name.to x.said)) w.0 v =
-      subst (WaySent (unless_empty (list_for w.0.name.to x.said)) w.0) same r.2 in
-      let told : list_for w.0.name.to x.said ≡ told_to w.0.name.to x.step.batch =
-      said-told w.0.name.to x.step.batch x.said x.step.says in
+      let w = was s.side.producers t.side.producers d v x.producers.count at in
+      let r = x.producers.each d w.0 w.1 in
+      let same : r.0 ≡ v = get-same t.side.producers d r.0 v r.1 at in
+      let sent : ProducerSent (unless_empty (list_for w.0.name.to x.output)) w.0 v =
+      subst (ProducerSent (unless_empty (list_for w.0.name.to x.output)) w.0) same r.2 in
+      let listed : list_for w.0.name.to x.output ≡ output_to w.0.name.to x.step.batch =
+      output-listed w.0.name.to x.step.batch x.output x.step.says in
       let lists : lists_kept w.0.name.to t.recorded.kept
-      ≡ lists_kept w.0.name.to s.recorded.kept ++ unless_empty (list_for w.0.name.to x.said) =
+      ≡ lists_kept w.0.name.to s.recorded.kept ++ unless_empty (list_for w.0.name.to x.output) =
       ap (λ (bs : List law.Batch). lists_to w.0.name.to bs) x.step.batches
       ∙ (lists-more w.0.name.to s.recorded.kept.batches x.step.batch
-      ∙ ap (λ (z : List LinkOut). lists_kept w.0.name.to s.recorded.kept ++ unless_empty z) (sym told)) in
-      let f : Follows v (lists_kept w.0.name.to s.recorded.kept ++ unless_empty (list_for w.0.name.to x.said)) =
-      follows-step (unless_empty (list_for w.0.name.to x.said)) (lists_kept w.0.name.to s.recorded.kept) w.0 v
+      ∙ ap (λ (z : List LinkOut). lists_kept w.0.name.to s.recorded.kept ++ unless_empty z) (sym listed)) in
+      let f : Follows v (lists_kept w.0.name.to s.recorded.kept ++ unless_empty (list_for w.0.name.to x.output)) =
+      follows-step (unless_empty (list_for w.0.name.to x.output)) (lists_kept w.0.name.to s.recorded.kept) w.0 v
       (h.to_all d w.0 w.1) sent in
       subst (λ (n : NamedOutlet). Follows v (lists_kept n.to t.recorded.kept)) (sym sent.name)
       (subst (Follows v) (sym lists) f)
@@ -165,17 +172,19 @@ module _ (inlets : List NamedInlet) (outlets : List NamedOutlet) (k : ℕ) (s t 
         | inl q ↦ h.named i e q
         | inr q ↦ (
           k,
-          x.seat.name,
-          name-of k x.seat x.there,
+          x.consumer.name,
+          name-of k x.consumer x.there,
           subst
-              (λ (z : Event). is_from x.seat.name.source z ≡ true) q x.own,
+              (λ (z : Event). is_from x.consumer.name.source z ≡ true) q x.own,
         )
       ]
 
   pub steps-agree : Agrees inlets outlets t
   steps-agree = record {
-    seat_names = each-same seat_name s.side.seats t.side.seats x.seats.count seat-moves ∙ h.seat_names;
-    way_names = each-same way_name s.side.ways t.side.ways x.ways.count way-moves ∙ h.way_names;
+    consumer_names = each-same consumer_name s.side.consumers t.side.consumers x.consumers.count consumer-moves
+        ∙ h.consumer_names;
+    producer_names = each-same producer_name s.side.producers t.side.producers x.producers.count producer-moves
+        ∙ h.producer_names;
     apart = h.apart;
     few = h.few;
     from_all = from-more;

@@ -2,7 +2,7 @@
 use Rattle.std.proofs.Common.{◌≡◌, ℕ, List, [], ◌∷◌, length, Result, Ok, Err, IfOk, OnErr, sym, subst}
 use Rattle.desk_steps.specs.Agreeing.{DeskState}
 use Rattle.desk_steps.specs.Recorded.{Recorded}
-use Rattle.desk_steps.specs.Settling.{HistoryGoesOn, WaysHold}
+use Rattle.desk_steps.specs.Settling.{HistoryGoesOn, ProducersHold}
 use Rattle.desk_steps.specs.Turning.{Does, RoundIsRefused, Rounds, StepsFirst, Went}
 use Rattle.desk_steps.specs.declared.turned.Did.{Did}
 use Rattle.desk_steps.specs.declared.turned.Did.TheVariants.{Idle, Dropped, Held, Stepped, Refused}
@@ -13,15 +13,15 @@ use Rattle.desk_steps.proofs.Holding.{drops-hold, holds-none, holds-twice, looks
 -- what a desk was goes on
 pub record Onward (s t : DeskState) : Type 0 where
   pub history : HistoryGoesOn s.recorded t.recorded
-  pub ways : WaysHold s.side.ways t.side.ways
+  pub producers : ProducersHold s.side.producers t.side.producers
 
 nowhere : (s : DeskState) → Onward s s
-nowhere s = record { history = goes-nowhere s.recorded; ways = holds-none s.side.ways }
+nowhere s = record { history = goes-nowhere s.recorded; producers = holds-none s.side.producers }
 
 pub onward-twice : (s m t : DeskState) → Onward s m → Onward m t → Onward s t
 onward-twice s m t p q = record {
   history = goes-further s.recorded m.recorded t.recorded p.history q.history;
-  ways = holds-twice s.side.ways m.side.ways t.side.ways p.ways q.ways;
+  producers = holds-twice s.side.producers m.side.producers t.side.producers p.producers q.producers;
 }
 
 -- what stays of the history
@@ -31,36 +31,36 @@ stays r q same = subst (HistoryGoesOn r) (sym same) (goes-nowhere r)
 does-on : (k : ℕ) (did : Did) (s t : DeskState) → Does k did s t → Onward s t
 does-on k Idle s t d = record {
   history = stays s.recorded t.recorded d.0.recorded;
-  ways =
-      looks-hold s.side.ways t.side.ways d.0.ways;
+  producers =
+      looks-hold s.side.producers t.side.producers d.0.producers;
 }
 does-on k Held s t d = record {
   history = stays s.recorded t.recorded d.0.recorded;
-  ways =
-      looks-hold s.side.ways t.side.ways d.0.ways;
+  producers =
+      looks-hold s.side.producers t.side.producers d.0.producers;
 }
 does-on k Refused s t d = record {
   history = stays s.recorded t.recorded d.0.recorded;
-  ways =
-      looks-hold s.side.ways t.side.ways d.0.ways;
+  producers =
+      looks-hold s.side.producers t.side.producers d.0.producers;
 }
 does-on k Dropped s t d =
     onward-twice s d.0 t
     (record {
       history = stays s.recorded d.0.recorded d.1.recorded;
-      ways =
-          looks-hold s.side.ways d.0.side.ways d.1.ways;
+      producers =
+          looks-hold s.side.producers d.0.side.producers d.1.producers;
     })
-    (record { history = stays d.0.recorded t.recorded d.2.recorded; ways = drops-hold k d.0 t d.2 })
+    (record { history = stays d.0.recorded t.recorded d.2.recorded; producers = drops-hold k d.0 t d.2 })
 does-on k Stepped s t d =
     let x : StepsFirst k d.0 t = d.2 in
     onward-twice s d.0 t
     (record {
       history = stays s.recorded d.0.recorded d.1.recorded;
-      ways =
-          looks-hold s.side.ways d.0.side.ways d.1.ways;
+      producers =
+          looks-hold s.side.producers d.0.side.producers d.1.producers;
     })
-    (record { history = step-goes x.event x.said d.0.recorded t.recorded x.step; ways = steps-hold k d.0 t x })
+    (record { history = step-goes x.event x.output d.0.recorded t.recorded x.step; producers = steps-hold k d.0 t x })
 
 went-on : (s : DeskState) (dids : List Did) (t : DeskState) → Went s dids t → Onward s t
 went-on s [] t w = subst (Onward s) (sym w) (nowhere s)

@@ -8,8 +8,8 @@ use Rattle.gate_core.specs.Core.{After, CoreState, IsAfter}
 use Rattle.gate_journal.specs.Cut.{IsMoreOf, with_records}
 use Rattle.gate_journal.specs.Kept.{Kept, kept_turn, turns}
 use Rattle.gate_journal.specs.Parts.{turn_records}
-use Rattle.desk_side.specs.declared.said.Said.{Said}
-use Rattle.desk_side.specs.Said.{IsSaid}
+use Rattle.desk_side.specs.declared.batch_output.BatchOutput.{BatchOutput}
+use Rattle.desk_side.specs.BatchOutput.{IsOutputOf}
 use Rattle.desk_steps.specs.Recorded.{IsKeptStep, Recorded}
 
 pub holds-after : (s : Settings) (h : History) (core : CoreState) → IsAfter s h core → Holds s h
@@ -26,14 +26,15 @@ pub after-turns : (s : Settings) (h g : History) (c : CoreState) → g ≡ h →
 after-turns s h g c same after = subst (λ (z : History). IsAfter s z c) (sym same) after
 
 -- what is kept with its batch is a step
-pub step-is : (e : Event) (said : Said) (batch : Batch) (settings : Settings) (kept more : Kept) (old : Recorded)
+pub step-is : (e : Event) (output : BatchOutput) (batch : Batch) (settings : Settings) (kept more : Kept)
+    (old : Recorded)
     → record { settings = settings; kept = kept } ≡ old
     → more.events ≡ kept.events ++ e ∷ [] → more.batches ≡ kept.batches ++ batch ∷ []
     → more.pages ≡ with_records kept.pages (turn_records e batch)
-    → IsSaid batch said → Holds settings (kept_turn e batch ∷ turns kept)
-    → IsKeptStep e said old (record { settings = settings; kept = more })
-step-is e said batch settings kept more old is events batches pages says holds =
-    subst (λ (z : Recorded). IsKeptStep e said z (record { settings = settings; kept = more })) is
+    → IsOutputOf batch output → Holds settings (kept_turn e batch ∷ turns kept)
+    → IsKeptStep e output old (record { settings = settings; kept = more })
+step-is e output batch settings kept more old is events batches pages says holds =
+    subst (λ (z : Recorded). IsKeptStep e output z (record { settings = settings; kept = more })) is
     (record {
       batch = batch;
       settings = refl;

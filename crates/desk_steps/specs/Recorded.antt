@@ -6,8 +6,8 @@ use Rattle.gate_journal.specs.gate_law.Holds.{Holds}
 use Rattle.gate_events.specs.declared.event.Event.{Event}
 use Rattle.gate_journal.specs.Cut.{IsMoreOf}
 use Rattle.gate_journal.specs.Kept.{Kept, kept_turn, turns}
-use Rattle.desk_side.specs.declared.said.Said.{Said}
-use Rattle.desk_side.specs.Said.{IsSaid}
+use Rattle.desk_side.specs.declared.batch_output.BatchOutput.{BatchOutput}
+use Rattle.desk_side.specs.BatchOutput.{IsOutputOf}
 
 -- its settings, and what the history keeps
 pub record Recorded : Type 0 where
@@ -16,11 +16,11 @@ pub record Recorded : Type 0 where
 
 -- The event is kept with a batch, behind what was kept, and this is what the batch tells; all that is promised holds
 -- with it.
-pub record IsKeptStep (e : Event) (said : Said) (old new : Recorded) : Type 0 where
+pub record IsKeptStep (e : Event) (output : BatchOutput) (old new : Recorded) : Type 0 where
   pub batch : Batch
   pub settings : new.settings ≡ old.settings
   pub events : new.kept.events ≡ old.kept.events ++ e ∷ []
   pub batches : new.kept.batches ≡ old.kept.batches ++ batch ∷ []
   pub pages : IsMoreOf old.kept.pages new.kept.pages
-  pub says : IsSaid batch said
+  pub says : IsOutputOf batch output
   pub holds : Holds old.settings (kept_turn e batch ∷ turns old.kept)

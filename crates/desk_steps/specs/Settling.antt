@@ -7,9 +7,9 @@ use Rattle.gate_events.specs.Sources.{events_from}
 use Rattle.gate_journal.specs.Cut.{IsMoreOf}
 use Rattle.gate_journal.specs.Kept.{Kept, lists_kept}
 use Rattle.desk_steps.specs.Recorded.{Recorded}
-use Rattle.desk_side.specs.desk_ends.Rings.{Done, put_at, took_at}
-use Rattle.desk_side.specs.desk_ends.Ends.{inlet_of}
-use Rattle.desk_side.specs.desk_ends.Seats.{IsBorneOut, SeatState, WayState}
+use Rattle.desk_side.specs.desk_rings.Rings.{Done, put_at, took_at}
+use Rattle.desk_side.specs.desk_rings.Ends.{inlet_of}
+use Rattle.desk_side.specs.desk_rings.CoreEnds.{IsBorneOut, InletConsumerState, OutletProducerState}
 
 -- The history has just what was put. What was taken is a beginning of what it tells, and the whole where as many lists
 -- were taken.
@@ -28,50 +28,53 @@ pub record HistoryGoesOn (old new : Recorded) : Type 0 where
   pub batches : IsPrefix old.kept.batches new.kept.batches
   pub pages : IsMoreOf old.kept.pages new.kept.pages
 
--- a way that stages releases nothing
-abbrev pub WayHolds : WayState → WayState → Type 0
-WayHolds w v = (v.name ≡ w.name) × (v.stages ≡ w.stages) × (w.stages ≡ true → v.released ≡ w.released)
+-- a producer that stages releases nothing
+abbrev pub ProducerHolds : OutletProducerState → OutletProducerState → Type 0
+ProducerHolds w v = (v.name ≡ w.name) × (v.stages ≡ w.stages) × (w.stages ≡ true → v.released ≡ w.released)
     × IsPrefix w.sent v.sent
 
-pub record WaysHold (old new : List WayState) : Type 0 where
+pub record ProducersHold (old new : List OutletProducerState) : Type 0 where
   pub count : length new ≡ length old
-  pub each : (d : ℕ) (w : WayState) → slice_get old d ≡ Some w → (v : WayState) × (slice_get new d ≡ Some v)
-      × WayHolds w v
+  pub each : (d : ℕ) (w : OutletProducerState) → slice_get old d ≡ Some w
+      → (v : OutletProducerState) × (slice_get new d ≡ Some v)
+      × ProducerHolds w v
 
--- what a finished outlet took is a beginning of what was released into its ring, where its way stages
-abbrev pub AreReleased : List Done → List WayState → Type 0
-AreReleased finished ways = (i d : ℕ) (to : Recipient) (lists : List (List LinkOut))
+-- what a finished outlet took is a beginning of what was released into its ring, where its producer stages
+abbrev pub AreReleased : List Done → List OutletProducerState → Type 0
+AreReleased finished producers = (i d : ℕ) (to : Recipient) (lists : List (List LinkOut))
     → slice_get finished i ≡ Some (took_at d to lists)
-    → (w : WayState) × (slice_get ways d ≡ Some w) × (w.name.to ≡ to)
+    → (w : OutletProducerState) × (slice_get producers d ≡ Some w) × (w.name.to ≡ to)
     × (w.stages ≡ true → IsPrefix lists w.released)
 
 -- ---- on the way there
 
--- a seat gave and knows all that the end says, and perhaps more
-abbrev pub IsBegun : Done → List SeatState → Type 0
-IsBegun (put_at k source events) seats = (a : SeatState) → slice_get seats k ≡ Some a
+-- a consumer gave and knows all that the end says, and perhaps more
+abbrev pub IsBegun : Done → List InletConsumerState → Type 0
+IsBegun (put_at k source events) consumers = (a : InletConsumerState) → slice_get consumers k ≡ Some a
     → IsPrefix events (a.gave ++ a.known)
-IsBegun (took_at d to lists) seats = Unit {0}
+IsBegun (took_at d to lists) consumers = Unit {0}
 
-abbrev pub AreBegun : List Done → List SeatState → Type 0
-AreBegun finished seats = (i : ℕ) (f : Done) → slice_get finished i ≡ Some f → IsBegun f seats
+abbrev pub AreBegun : List Done → List InletConsumerState → Type 0
+AreBegun finished consumers = (i : ℕ) (f : Done) → slice_get finished i ≡ Some f → IsBegun f consumers
 
-abbrev pub AreTold : List Done → List SeatState → List WayState → Type 0
-AreTold finished seats ways = (i : ℕ) (f : Done) → slice_get finished i ≡ Some f → IsBorneOut f seats ways
+abbrev pub AreBorneOut : List Done → List InletConsumerState → List OutletProducerState → Type 0
+AreBorneOut finished consumers producers = (i : ℕ) (f : Done) → slice_get finished i ≡ Some f
+    → IsBorneOut f consumers producers
 
--- a seat gave of what it was known to have, and knows the rest still
-abbrev pub SeatShrinks : SeatState → SeatState → Type 0
-SeatShrinks a b = (b.name ≡ a.name) × (b.gave ++ b.known ≡ a.gave ++ a.known) × (length b.known ≤ length a.known)
+-- a consumer gave of what it was known to have, and knows the rest still
+abbrev pub ConsumerShrinks : InletConsumerState → InletConsumerState → Type 0
+ConsumerShrinks a b = (b.name ≡ a.name) × (b.gave ++ b.known ≡ a.gave ++ a.known) × (length b.known ≤ length a.known)
 
-pub record Shrinks (old new : List SeatState) : Type 0 where
+pub record Shrinks (old new : List InletConsumerState) : Type 0 where
   pub count : length new ≡ length old
-  pub each : (k : ℕ) (a : SeatState) → slice_get old k ≡ Some a → (b : SeatState) × (slice_get new k ≡ Some b)
-      × SeatShrinks a b
+  pub each : (k : ℕ) (a : InletConsumerState) → slice_get old k ≡ Some a
+      → (b : InletConsumerState) × (slice_get new k ≡ Some b)
+      × ConsumerShrinks a b
 
 -- it knows of no event
-abbrev pub KnowsNone : ℕ → List SeatState → Type 0
-KnowsNone k seats = (a : SeatState) → slice_get seats k ≡ Some a → length a.known ≡ 0
+abbrev pub KnowsNone : ℕ → List InletConsumerState → Type 0
+KnowsNone k consumers = (a : InletConsumerState) → slice_get consumers k ≡ Some a → length a.known ≡ 0
 
-abbrev pub AreDrained : List Done → List SeatState → Type 0
-AreDrained finished seats = (i : ℕ) (f : Done) (k : ℕ) → slice_get finished i ≡ Some f → inlet_of f ≡ Some k
-    → KnowsNone k seats
+abbrev pub AreDrained : List Done → List InletConsumerState → Type 0
+AreDrained finished consumers = (i : ℕ) (f : Done) (k : ℕ) → slice_get finished i ≡ Some f → inlet_of f ≡ Some k
+    → KnowsNone k consumers

@@ -7,11 +7,12 @@ use Rattle.gate_events.specs.Sources.{is_from}
 use Rattle.gate_core.specs.Targets.{client_for, port_for}
 use Rattle.gate_journal.specs.Kept.{turns}
 use Rattle.desk_steps.specs.Recorded.{IsKeptStep, Recorded}
-use Rattle.desk_side.specs.desk_ends.Seats.{SeatState, SeatGave, SeatLooked, WayState, WaysLooked}
-use Rattle.desk_side.specs.declared.said.Said.{Said}
-use Rattle.desk_side.specs.Side.{ChangesAt, HaveRoom, LacksRoom, SideState, Tells}
+use Rattle.desk_side.specs.desk_rings.CoreEnds.{InletConsumerState, ConsumerGave, ConsumerLooked, OutletProducerState}
+use Rattle.desk_side.specs.desk_rings.CoreEnds.{ProducersLooked}
+use Rattle.desk_side.specs.declared.batch_output.BatchOutput.{BatchOutput}
+use Rattle.desk_side.specs.Side.{ChangesAt, HaveRoom, LacksRoom, SideState, OutputSent}
 use Rattle.desk_steps.specs.Agreeing.{DeskState}
-use Rattle.desk_steps.specs.KeptFree.{kept_free}
+use Rattle.desk_steps.specs.Reserved.{reserved}
 use Rattle.desk_steps.specs.Settling.{KnowsNone}
 use Rattle.desk_steps.specs.declared.turned.Did.{Did}
 use Rattle.desk_steps.specs.declared.turned.Did.TheVariants.{Idle, Dropped, Held, Stepped, Refused}
@@ -25,69 +26,70 @@ SameCounts s t = (t.clients ≡ s.clients) × (t.ports ≡ s.ports)
 -- nothing else changed.
 pub record Looks (k : ℕ) (s t : DeskState) : Type 0 where
   pub recorded : t.recorded ≡ s.recorded
-  pub seats : ChangesAt k SeatLooked s.side.seats t.side.seats
-  pub ways : WaysLooked s.side.ways t.side.ways
+  pub consumers : ChangesAt k ConsumerLooked s.side.consumers t.side.consumers
+  pub producers : ProducersLooked s.side.producers t.side.producers
   pub counts : SameCounts s.side t.side
 
 -- The first event of an inlet's ring, of the inlet's source, is stepped: it comes out of the ring, it is kept with its
 -- batch, and what that tells goes into the rings of its recipients.
 pub record StepsFirst (k : ℕ) (s t : DeskState) : Type 0 where
   pub event : Event
-  pub said : Said
-  pub seat : SeatState
-  pub there : slice_get s.side.seats k ≡ Some seat
-  pub own : is_from seat.name.source event ≡ true
-  pub step : IsKeptStep event said s.recorded t.recorded
-  pub seats : ChangesAt k (SeatGave event) s.side.seats t.side.seats
-  pub ways : Tells said s.side.ways t.side.ways
+  pub output : BatchOutput
+  pub consumer : InletConsumerState
+  pub there : slice_get s.side.consumers k ≡ Some consumer
+  pub own : is_from consumer.name.source event ≡ true
+  pub step : IsKeptStep event output s.recorded t.recorded
+  pub consumers : ChangesAt k (ConsumerGave event) s.side.consumers t.side.consumers
+  pub producers : OutputSent output s.side.producers t.side.producers
   pub counts : SameCounts s.side t.side
 
 -- The first event of an inlet's ring isn't of the inlet's source: it comes out of the ring and is dropped.
 pub record Drops (k : ℕ) (s t : DeskState) : Type 0 where
   pub event : Event
-  pub seat : SeatState
-  pub there : slice_get s.side.seats k ≡ Some seat
-  pub foreign : is_from seat.name.source event ≡ false
+  pub consumer : InletConsumerState
+  pub there : slice_get s.side.consumers k ≡ Some consumer
+  pub foreign : is_from consumer.name.source event ≡ false
   pub recorded : t.recorded ≡ s.recorded
-  pub seats : ChangesAt k (SeatGave event) s.side.seats t.side.seats
-  pub ways : t.side.ways ≡ s.side.ways
+  pub consumers : ChangesAt k (ConsumerGave event) s.side.consumers t.side.consumers
+  pub producers : t.side.producers ≡ s.side.producers
   pub counts : SameCounts s.side t.side
 
 -- The first event of an inlet's ring, of the inlet's source, waits: in the ring of somebody to whom its batch may tell
--- something are no more places than it leaves free (`way_room`: of those that only clients' events use, a long list
--- takes more than one).
+-- something are no more places than it leaves free (`producer_room`: of those that only clients' events use, a long
+-- list takes more than one).
 pub record Waits (k : ℕ) (s : DeskState) : Type 0 where
   pub event : Event
-  pub seat : SeatState
-  pub there : slice_get s.side.seats k ≡ Some seat
-  pub first : slice_get seat.known 0 ≡ Some event
-  pub own : is_from seat.name.source event ≡ true
-  pub held : LacksRoom (kept_free (event_seen event))
+  pub consumer : InletConsumerState
+  pub there : slice_get s.side.consumers k ≡ Some consumer
+  pub first : slice_get consumer.known 0 ≡ Some event
+  pub own : is_from consumer.name.source event ≡ true
+  pub held : LacksRoom (reserved (event_seen event))
       (client_for s.recorded.settings (event_seen event) (lists s.recorded.settings (turns s.recorded.kept)))
-      (port_for s.recorded.settings (event_seen event)) s.side.ways
+      (port_for s.recorded.settings (event_seen event)) s.side.producers
 
 -- The first event of an inlet's ring has room: in the ring of each to whom its batch may tell something are more places
--- than it leaves free (`way_room`), or its way is cut.
+-- than it leaves free (`producer_room`), or its producer has overflowed.
 pub record HasRoom (k : ℕ) (s : DeskState) : Type 0 where
   pub event : Event
-  pub seat : SeatState
-  pub there : slice_get s.side.seats k ≡ Some seat
-  pub first : slice_get seat.known 0 ≡ Some event
-  pub room : HaveRoom (kept_free (event_seen event))
+  pub consumer : InletConsumerState
+  pub there : slice_get s.side.consumers k ≡ Some consumer
+  pub first : slice_get consumer.known 0 ≡ Some event
+  pub room : HaveRoom (reserved (event_seen event))
       (client_for s.recorded.settings (event_seen event) (lists s.recorded.settings (turns s.recorded.kept)))
-      (port_for s.recorded.settings (event_seen event)) s.side.ways
+      (port_for s.recorded.settings (event_seen event)) s.side.producers
 
--- no way is cut that wasn't
-abbrev pub SameCuts : List WayState → List WayState → Type 0
-SameCuts old new = (d : ℕ) (w v : WayState) → slice_get old d ≡ Some w → slice_get new d ≡ Some v → v.cut ≡ w.cut
+-- no producer has overflowed that hadn't before
+abbrev pub SameOverflows : List OutletProducerState → List OutletProducerState → Type 0
+SameOverflows old new = (d : ℕ) (w v : OutletProducerState) → slice_get old d ≡ Some w → slice_get new d ≡ Some v
+    → v.overflowed ≡ w.overflowed
 
 -- what became of an inlet's turn
 abbrev pub Does : ℕ → Did → DeskState → DeskState → Type 0
-Does k Idle s t = Looks k s t × KnowsNone k t.side.seats
+Does k Idle s t = Looks k s t × KnowsNone k t.side.consumers
 Does k Dropped s t = (m : DeskState) × Looks k s m × Drops k m t
 Does k Held s t = Looks k s t × Waits k t
 Does k Stepped s t =
-    (m : DeskState) × Looks k s m × StepsFirst k m t × SameCuts m.side.ways t.side.ways × HasRoom k m
+    (m : DeskState) × Looks k s m × StepsFirst k m t × SameOverflows m.side.producers t.side.producers × HasRoom k m
 Does k Refused s t = Looks k s t × HasRoom k t
 
 -- the turns of the first inlets, one after another, the newest first
@@ -109,13 +111,13 @@ pub record Rounds (turned : Turned) (s t : DeskState) : Type 0 where
   pub dids : List Did
   pub went : Went s dids t
   pub counts : turned ≡ counted dids
-  pub all : length dids ≡ length s.side.seats
+  pub all : length dids ≡ length s.side.consumers
   pub end : (0 < turned.steps) ⊎ (turned.refused ≡ 0)
 
 -- A round in which memory was refused for an event, and no step was made.
 pub record RoundIsRefused (s t : DeskState) : Type 0 where
   pub dids : List Did
   pub went : Went s dids t
-  pub all : length dids ≡ length s.side.seats
+  pub all : length dids ≡ length s.side.consumers
   pub none : (counted dids).steps ≡ 0
   pub some : 0 < (counted dids).refused

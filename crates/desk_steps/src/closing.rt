@@ -3,34 +3,36 @@
 ghost use Rattle.std.specs.Prelude.{◌≡◌, ◌<◌, ◌⊎◌, ◌≤◌, ℕ, List, true, Some, length, map, slice_get, OnOk, OnErr};
 ghost use Rattle.gate_events.specs.Sources.{is_from};
 ghost use Rattle.gate_events.specs.declared.event.Event.{Event};
-ghost use Rattle.desk_side.specs.desk_ends.Rings.{NamedInlet, NamedOutlet};
-ghost use Rattle.desk_side.specs.desk_ends.Ends.{inlet_of};
-ghost use Rattle.desk_side.specs.desk_ends.Seats.{SeatState, SeatsLooked, WaysLooked, seat_name, way_name};
+ghost use Rattle.desk_side.specs.desk_rings.Rings.{NamedInlet, NamedOutlet};
+ghost use Rattle.desk_side.specs.desk_rings.Ends.{inlet_of};
+ghost use Rattle.desk_side.specs.desk_rings.CoreEnds.{InletConsumerState, ConsumersLooked, ProducersLooked};
+ghost use Rattle.desk_side.specs.desk_rings.CoreEnds.{consumer_name, producer_name};
 ghost use Rattle.desk_steps.specs.Agreeing.{Agrees};
-ghost use Rattle.desk_steps.specs.Settling.{AreBegun, AreDrained, AreSettled, AreTold, HistoryGoesOn, KnowsNone};
-ghost use Rattle.desk_steps.specs.Settling.{AreReleased, Shrinks, WaysHold};
+ghost use Rattle.desk_steps.specs.Settling.{AreBegun, AreDrained, AreSettled, AreBorneOut, HistoryGoesOn, KnowsNone};
+ghost use Rattle.desk_steps.specs.Settling.{AreReleased, Shrinks, ProducersHold};
 ghost use Rattle.desk_steps.specs.Turning.{Drops, StepsFirst};
 
 use crate::recorded::RecordedCore;
 use crate::turning::step_front;
-use desk_side::{DeskName, Finished, Side};
+use desk_rings::{DeskName, Finished};
+use desk_side::Side;
 use std::alloc::{AllocError, Global};
 use std::hash::BuildHasher;
 
 /// Compares each end that has finished with the desk's own end of its ring.
 ///
-/// Two ends of one inlet would have to say the same. After one go over all of them the seat knows of all that each
-/// says; so after another each says just what the seat knows.
+/// Two ends of one inlet would have to say the same. After one go over all of them the consumer knows of all that each
+/// says; so after another each says just what the consumer knows.
 fn compare_all<K: DeskName>(side: &mut Side, finished: &mut Vec<Finished<K>>)
-    requires seats { map seat_name side.old.seats ≡ K.inlets }
-    requires ways { map way_name side.old.ways ≡ K.outlets }
+    requires consumers { map consumer_name side.old.consumers ≡ K.inlets }
+    requires producers { map producer_name side.old.producers ≡ K.outlets }
     ensures same { finished.new.items ≡ finished.old.items }
-    ensures seats { SeatsLooked side.old.seats side.new.seats }
-    ensures ways { WaysLooked side.old.ways side.new.ways }
+    ensures consumers { ConsumersLooked side.old.consumers side.new.consumers }
+    ensures producers { ProducersLooked side.old.producers side.new.producers }
     ensures counts { (side.new.clients ≡ side.old.clients) × (side.new.ports ≡ side.old.ports) }
-    ensures begun { AreBegun finished.old.items side.new.seats }
-    ensures told { AreBegun finished.old.items side.old.seats
-        → AreTold finished.old.items side.new.seats side.new.ways }
+    ensures begun { AreBegun finished.old.items side.new.consumers }
+    ensures borne_out { AreBegun finished.old.items side.old.consumers
+        → AreBorneOut finished.old.items side.new.consumers side.new.producers }
 {
     for i in 0..finished.len() {
         side.compare(&mut finished[i]);
@@ -44,8 +46,8 @@ fn drain_one<S: BuildHasher + Drop>(
     alloc: Global,
     place: usize,
 ) -> Result<(), AllocError>
-    requires inside { place < length side.old.seats }
-    requires some { (a : SeatState) → slice_get side.old.seats place ≡ Some a → 0 < length a.known }
+    requires inside { place < length side.old.consumers }
+    requires some { (a : InletConsumerState) → slice_get side.old.consumers place ≡ Some a → 0 < length a.known }
     ensures ok { OnOk result (StepsFirst place (record { recorded = recorded.old; side = side.old })
         (record { recorded = recorded.new; side = side.new })
         ⊎ Drops place (record { recorded = recorded.old; side = side.old })
@@ -67,14 +69,14 @@ fn drain<S: BuildHasher + Drop>(
     alloc: Global,
     place: usize,
 ) -> Result<(), AllocError>
-    requires inside { place < length side.old.seats }
+    requires inside { place < length side.old.consumers }
     ensures agrees { (inlets : List NamedInlet) (outlets : List NamedOutlet)
         → Agrees inlets outlets (record { recorded = recorded.old; side = side.old })
         → Agrees inlets outlets (record { recorded = recorded.new; side = side.new }) }
     ensures goes_on { HistoryGoesOn recorded.old recorded.new }
-    ensures holds { WaysHold side.old.ways side.new.ways }
-    ensures shrinks { Shrinks side.old.seats side.new.seats }
-    ensures none { OnOk result (KnowsNone place side.new.seats) }
+    ensures holds { ProducersHold side.old.producers side.new.producers }
+    ensures shrinks { Shrinks side.old.consumers side.new.consumers }
+    ensures none { OnOk result (KnowsNone place side.new.consumers) }
 {
     let left = side.known(place);
     for _ in 0..left {
@@ -90,14 +92,14 @@ fn drain_end<K: DeskName, S: BuildHasher + Drop>(
     alloc: Global,
     finished: &Finished<K>,
 ) -> Result<(), AllocError>
-    requires inside { (k : ℕ) → inlet_of finished.now ≡ Some k → k < length side.old.seats }
+    requires inside { (k : ℕ) → inlet_of finished.now ≡ Some k → k < length side.old.consumers }
     ensures agrees { (inlets : List NamedInlet) (outlets : List NamedOutlet)
         → Agrees inlets outlets (record { recorded = recorded.old; side = side.old })
         → Agrees inlets outlets (record { recorded = recorded.new; side = side.new }) }
     ensures goes_on { HistoryGoesOn recorded.old recorded.new }
-    ensures holds { WaysHold side.old.ways side.new.ways }
-    ensures shrinks { Shrinks side.old.seats side.new.seats }
-    ensures none { OnOk result ((k : ℕ) → inlet_of finished.now ≡ Some k → KnowsNone k side.new.seats) }
+    ensures holds { ProducersHold side.old.producers side.new.producers }
+    ensures shrinks { Shrinks side.old.consumers side.new.consumers }
+    ensures none { OnOk result ((k : ℕ) → inlet_of finished.now ≡ Some k → KnowsNone k side.new.consumers) }
 {
     match finished.inlet() {
         Some(place) => drain(recorded, side, alloc, place),
@@ -112,14 +114,14 @@ fn drain_all<K: DeskName, S: BuildHasher + Drop>(
     alloc: Global,
     finished: &Vec<Finished<K>>,
 ) -> Result<(), AllocError>
-    requires told { AreTold finished.now.items side.old.seats side.old.ways }
+    requires borne_out { AreBorneOut finished.now.items side.old.consumers side.old.producers }
     ensures agrees { (inlets : List NamedInlet) (outlets : List NamedOutlet)
         → Agrees inlets outlets (record { recorded = recorded.old; side = side.old })
         → Agrees inlets outlets (record { recorded = recorded.new; side = side.new }) }
     ensures goes_on { HistoryGoesOn recorded.old recorded.new }
-    ensures holds { WaysHold side.old.ways side.new.ways }
-    ensures shrinks { Shrinks side.old.seats side.new.seats }
-    ensures none { OnOk result (AreDrained finished.now.items side.new.seats) }
+    ensures holds { ProducersHold side.old.producers side.new.producers }
+    ensures shrinks { Shrinks side.old.consumers side.new.consumers }
+    ensures none { OnOk result (AreDrained finished.now.items side.new.consumers) }
 {
     for i in 0..finished.len() {
         drain_end(recorded, side, alloc, &finished[i])?;
@@ -140,8 +142,8 @@ pub fn settle<K: DeskName, S: BuildHasher + Drop>(
     ensures agrees { Agrees K.inlets K.outlets (record { recorded = recorded.new; side = side.new }) }
     ensures same { finished.new.items ≡ finished.old.items }
     ensures goes_on { HistoryGoesOn recorded.old recorded.new }
-    ensures holds { WaysHold side.old.ways side.new.ways }
-    ensures released { AreReleased finished.old.items side.new.ways }
+    ensures holds { ProducersHold side.old.producers side.new.producers }
+    ensures released { AreReleased finished.old.items side.new.producers }
     ensures settled { OnOk result (AreSettled finished.old.items recorded.new.kept) }
 {
     compare_all(side, finished);

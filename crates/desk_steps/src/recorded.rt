@@ -3,10 +3,10 @@
 ghost use Rattle.std.specs.Prelude.{◌≡◌, ◌++◌, ◌∷◌, [], IfOk, OnErr};
 ghost use Rattle.gate_journal.specs.Kept.{Kept, turns};
 ghost use Rattle.gate_core.specs.Core.{turn_of};
-ghost use Rattle.desk_side.specs.Said.{IsSaid};
+ghost use Rattle.desk_side.specs.BatchOutput.{IsOutputOf};
 
 use crate::status::Status;
-use desk_side::Said;
+use desk_side::BatchOutput;
 use fix_fields::Fields;
 use fix_session::LogonFault;
 use gate_core::{Batch, ClientNumber, Core, Event, PortFault, Settings, Targets};
@@ -88,7 +88,7 @@ impl<S: BuildHasher + Clone + Drop> RecordedCore<S> {
 
 impl<S: BuildHasher + Drop> RecordedCore<S> {
     ghost use Rattle.std.specs.Prelude.{◌≡◌, ◌∷◌, IfOk, OnErr};
-    ghost use Rattle.gate_journal.specs.gate_law.Events as told;
+    ghost use Rattle.gate_journal.specs.gate_law.Events as law;
     ghost use Rattle.gate_journal.specs.gate_law.After.{lists};
     ghost use Rattle.gate_journal.specs.gate_law.Holds.{Holds};
     ghost use Rattle.gate_journal.specs.gate_law.Promises.{IsAmong};
@@ -104,7 +104,7 @@ impl<S: BuildHasher + Drop> RecordedCore<S> {
         ensures client { result.client
             ≡ client_for self.now.settings (event_seen event.now) (lists self.now.settings (turns self.now.kept)) }
         ensures port { result.port ≡ port_for self.now.settings (event_seen event.now) }
-        ensures named { (batch : told.Batch)
+        ensures named { (batch : law.Batch)
             → Holds self.now.settings (record { event = event_seen event.now; batch = batch } ∷ turns self.now.kept)
             → IsAmong batch.client result.client × IsAmong batch.port result.port }
     {
@@ -113,16 +113,17 @@ impl<S: BuildHasher + Drop> RecordedCore<S> {
 
     /// Steps an event, keeps it with its batch, and gives what the batch tells. `AllocError` leaves all as it was: the
     /// event may be stepped again, or another one.
-    pub fn step(&mut self, alloc: Global, event: &Event) -> Result<Said, AllocError>
-        ensures ok { IfOk result (λ said. IsKeptStep event.now said self.old self.new) }
+    pub fn step(&mut self, alloc: Global, event: &Event) -> Result<BatchOutput, AllocError>
+        ensures ok { IfOk result (λ output. IsKeptStep event.now output self.old self.new) }
         ensures err { OnErr result (self.new ≡ self.old) }
     {
         let batch = self.core.step(alloc, event)?;
         match self.history.push(event, &batch) {
-            Ok(()) => Ok(Said::of(batch)),
+            Ok(()) => Ok(BatchOutput::of(batch)),
+            // Returned at once, so that what is said isn't copied where both producers meet.
             Err(error) => {
                 self.core.undo();
-                Err(error)
+                return Err(error);
             }
         }
     }

@@ -3,13 +3,13 @@
 ghost use Rattle.std.specs.Prelude.{◌≡◌, ◌<◌, ◌^◌, true, false, Some, length, slice_get, IfOk, OnOk, OnErr};
 ghost use Rattle.gate_events.specs.Sources.{is_from};
 ghost use Rattle.gate_events.specs.declared.event.Event.{Event};
-ghost use Rattle.desk_side.specs.desk_ends.Seats.{SeatState, WaysLooked};
+ghost use Rattle.desk_side.specs.desk_rings.CoreEnds.{InletConsumerState, ProducersLooked};
 ghost use Rattle.desk_steps.specs.Agreeing.{DeskState};
-ghost use Rattle.desk_steps.specs.Turning.{Does, HasRoom, RoundIsRefused, Rounds, SameCounts, SameCuts};
+ghost use Rattle.desk_steps.specs.Turning.{Does, HasRoom, RoundIsRefused, Rounds, SameCounts, SameOverflows};
 ghost use Rattle.desk_steps.specs.Turning.{StepsFirst, Waits};
 
-use crate::keeping_free::places_kept_free;
 use crate::recorded::RecordedCore;
+use crate::reserving::places_reserved;
 use crate::turned::{Did, Turned};
 use desk_side::Side;
 use std::alloc::{AllocError, Global};
@@ -23,16 +23,16 @@ pub(crate) fn step_front<S: BuildHasher + Drop>(
     alloc: Global,
     place: usize,
 ) -> Result<(), AllocError>
-    requires inside { place < length side.old.seats }
-    requires own { (a : SeatState) → slice_get side.old.seats place ≡ Some a
+    requires inside { place < length side.old.consumers }
+    requires own { (a : InletConsumerState) → slice_get side.old.consumers place ≡ Some a
         → (e : Event) × (slice_get a.known 0 ≡ Some e) × (is_from a.name.source e ≡ true) }
     ensures ok { OnOk result (StepsFirst place (record { recorded = recorded.old; side = side.old })
         (record { recorded = recorded.new; side = side.new })) }
     ensures err { OnErr result ((recorded.new ≡ recorded.old) × (side.new ≡ side.old)) }
 {
-    let said = recorded.step(alloc, side.front(place))?;
+    let output = recorded.step(alloc, side.front(place))?;
     let _ = side.pop(place);
-    side.tell(said);
+    side.send(output);
     Ok(())
 }
 
@@ -43,24 +43,24 @@ fn first_has_room<S: BuildHasher + Drop>(
     side: &mut Side,
     place: usize,
 ) -> bool
-    requires inside { place < length side.old.seats }
-    requires own { (a : SeatState) → slice_get side.old.seats place ≡ Some a
+    requires inside { place < length side.old.consumers }
+    requires own { (a : InletConsumerState) → slice_get side.old.consumers place ≡ Some a
         → (e : Event) × (slice_get a.known 0 ≡ Some e) × (is_from a.name.source e ≡ true) }
-    ensures seats { side.new.seats ≡ side.old.seats }
-    ensures ways { WaysLooked side.old.ways side.new.ways }
+    ensures consumers { side.new.consumers ≡ side.old.consumers }
+    ensures producers { ProducersLooked side.old.producers side.new.producers }
     ensures counts { SameCounts side.old side.new }
     ensures room { result ≡ true → HasRoom place (record { recorded = recorded.now; side = side.new }) }
-    ensures cuts { result ≡ true → (t : DeskState)
+    ensures overflows { result ≡ true → (t : DeskState)
         → StepsFirst place (record { recorded = recorded.now; side = side.new }) t
-        → SameCuts side.new.ways t.side.ways }
+        → SameOverflows side.new.producers t.side.producers }
     ensures held { result ≡ false → Waits place (record { recorded = recorded.now; side = side.new }) }
 {
-    let kept_free = places_kept_free(side.front(place));
-    if side.has_room_everywhere(kept_free) {
+    let reserved = places_reserved(side.front(place));
+    if side.has_room_everywhere(reserved) {
         return true;
     }
     let targets = recorded.targets(side.front(place));
-    side.has_room(targets.client, targets.port, kept_free)
+    side.has_room(targets.client, targets.port, reserved)
 }
 
 /// The turn of an inlet: its first event is stepped, unless it has to wait, or memory is refused for it: then it stays
@@ -71,10 +71,10 @@ pub(crate) fn turn_at<S: BuildHasher + Drop>(
     alloc: Global,
     place: usize,
 ) -> Did
-    requires inside { place < length side.old.seats }
+    requires inside { place < length side.old.consumers }
     ensures does { Does place result (record { recorded = recorded.old; side = side.old })
         (record { recorded = recorded.new; side = side.new }) }
-    ensures count { length side.new.seats ≡ length side.old.seats }
+    ensures count { length side.new.consumers ≡ length side.old.consumers }
 {
     if side.is_empty(place) {
         return Did::Idle;
@@ -100,7 +100,7 @@ pub fn round<S: BuildHasher + Drop>(
     side: &mut Side,
     alloc: Global,
 ) -> Result<Turned, AllocError>
-    requires few { length side.old.seats < 2 ^ 32 }
+    requires few { length side.old.consumers < 2 ^ 32 }
     ensures ok { IfOk result (λ turned. Rounds turned (record { recorded = recorded.old; side = side.old })
         (record { recorded = recorded.new; side = side.new })) }
     ensures err { OnErr result (RoundIsRefused (record { recorded = recorded.old; side = side.old })

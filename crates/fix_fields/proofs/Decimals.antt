@@ -4,7 +4,7 @@ use Rattle.std.specs.Char.{is_ascii_digit}
 use Rattle.std.specs.List.{list_all}
 use Rattle.std.proofs.lemmas.Bool.Decides.{nat_tests}
 use Rattle.std.proofs.lemmas.Fmt.{digits_decimal, length-decimal-le, decimal_digit, decimal_step}
-use Rattle.decimal_digits.proofs.Numbers.{own}
+use Rattle.wire_bytes.proofs.Numbers.{own}
 use Rattle.fix_fields.specs.Field.{is_inside}
 use Rattle.fix_fields.proofs.Tags.{and_parts}
 

@@ -9,8 +9,8 @@ use Rattle.std.proofs.lemmas.List.Folds.{length-prefix_len}
 use Rattle.std.proofs.lemmas.List.Sums.{prefix_len_passes, prefix_len_stops, prefix_len-drop_yes, prefix_len-drop_no}
 use Rattle.std.proofs.lemmas.Bool.{false≢true}
 use Rattle.std.proofs.lemmas.Str.Parse.{digits_value_short}
-use Rattle.decimal_digits.specs.Digits.{number_of}
-use Rattle.decimal_digits.proofs.Numbers.{own, all_digits_more, digit_range, number_of_more, number_of-take-le}
+use Rattle.wire_bytes.specs.Digits.{number_of}
+use Rattle.wire_bytes.proofs.Numbers.{own, all_digits_more, digit_range, number_of_more, number_of-take-le}
 use Rattle.fix_fields.specs.Field.{Field, is_field, is_inside, field_text}
 use Rattle.fix_fields.specs.declared.span.TagPlace.{TagPlace}
 use Rattle.fix_fields.specs.Front.{IsFront, HasField, AreDigits, IsTagAt, digits_from}

@@ -1,7 +1,7 @@
 -- Messages written down: text with `|` for SOH, none behind the last field.
 use Rattle.std.specs.Prelude.{ℕ, ◌==◌, Bool, List, [], ◌∷◌, if◌then◌else◌}
 use Rattle.std.specs.List.{before_first, after_first}
-use Rattle.decimal_digits.specs.Digits.{number_of}
+use Rattle.wire_bytes.specs.Digits.{number_of}
 use Rattle.fix_fields.specs.Field.{Field, Message, field}
 
 abbrev is_equals : ℕ → Bool

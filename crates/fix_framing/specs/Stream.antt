@@ -4,9 +4,9 @@ use Rattle.std.specs.Prelude.{◌≡◌, ◌++◌, ◌^◌, min, ℕ, zero, suc,
 use Rattle.std.specs.Prelude.{◌≤◌, true, false, length, take, drop, Option, Some, None, slice_index_or, if◌then◌else◌}
 use Rattle.std.specs.Char.{is_ascii_digit}
 use Rattle.std.specs.List.{prefix_len}
-use Rattle.stream_buffer.specs.Buffer.{BytesHeld, LetsGo}
+use Rattle.wire_streams.specs.Buffer.{BytesHeld, LetsGo}
 use Rattle.fix_fields.specs.Field.{Field}
-use Rattle.decimal_digits.specs.Digits.{number_of}
+use Rattle.wire_bytes.specs.Digits.{number_of}
 use Rattle.fix_fields.specs.Reading.{fields_of}
 use Rattle.fix_framing.specs.Frame.{opening, begins_with, ends_with, trailer, trailer_size, is_body}
 

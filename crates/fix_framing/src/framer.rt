@@ -4,7 +4,7 @@ ghost use Rattle.std.specs.Prelude.{◌≡◌, ◌≢◌, ◌<◌, ◌≤◌, �
 ghost use Rattle.std.specs.Prelude.{IfOk, IfNone, IsOk, OnOk, OnErr, Err, None, IsTrue, ◌↔◌, ⊤};
 ghost use Rattle.std.specs.Borrow.{sem, follows_so};
 ghost use mathlib.Core.Option.{none};
-ghost use Rattle.stream_buffer.specs.Buffer.{Takes, Counts, LetsGo};
+ghost use Rattle.wire_streams.specs.Buffer.{Takes, Counts, LetsGo};
 ghost use Rattle.fix_fields.specs.Field.{Field};
 ghost use Rattle.fix_framing.specs.Stream.{ReaderStanding, Rest, Over, BytesLeave, Feeds, parts, counted_skips};
 ghost use Rattle.fix_framing.specs.Stream.{Passed, PassesFrame, Sought, IsSeen, IsTaken, left, longer};
@@ -18,7 +18,7 @@ use crate::scan::{next_frame_of, next_of, scan_in};
 use fix_fields::{Fields, FieldsView};
 use std::alloc::{AllocError, Global};
 use std::marker::Model;
-use stream_buffer::StreamBuffer;
+use wire_streams::StreamBuffer;
 
 /// The reader of a stream of bytes: it takes pieces, and gives the frames that are whole. Contracts see the bytes that
 /// it still has to judge, or that no more frames come, how many bytes were skipped, and what its buffer holds.

@@ -14,7 +14,6 @@ mod scan;
 mod start;
 mod writing;
 
-pub use fix_fields::{Fields, PrintedFields, SOH, printed_fields};
 pub use frame_fault::FrameFault;
 pub use framer::Framer;
 pub use place::front_body;

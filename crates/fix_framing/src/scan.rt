@@ -1,7 +1,7 @@
 //! The parts of a text.
 
 ghost use Rattle.std.specs.Prelude.{◌≡◌, ◌≤◌, ◌++◌, [], length, drop, IfOk, OnOk, OnErr};
-ghost use Rattle.stream_buffer.specs.Buffer.{Counts};
+ghost use Rattle.wire_streams.specs.Buffer.{Counts};
 ghost use Rattle.fix_framing.specs.Stream.{parts, place};
 ghost use Rattle.fix_framing.specs.Scanned.{scanned_parts, StandsFramed, StandsNext};
 ghost use Rattle.fix_framing.specs.Seen.{IsAhead};
@@ -9,7 +9,7 @@ ghost use Rattle.fix_framing.specs.Seen.{IsAhead};
 use crate::place::{Framed, Framing, Place, framing_of, place_of};
 use fix_fields::{Fields, FieldsView};
 use std::alloc::{AllocError, Global};
-use stream_buffer::StreamBuffer;
+use wire_streams::StreamBuffer;
 
 /// The parts of a text: its frames, how many bytes were skipped, how many bytes both take, and whether too long a frame
 /// stands behind them.

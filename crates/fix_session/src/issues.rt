@@ -3,8 +3,8 @@
 ghost use Rattle.std.specs.Prelude.{◌≡◌};
 ghost use Rattle.fix_session.specs.Issues as law;
 
+use fix_types::AppBody;
 use session_law::Kind;
-use session_reading::AppBody;
 
 /// The type of the frame of a body.
 pub fn kind_of(body: &AppBody) -> Kind

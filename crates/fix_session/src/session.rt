@@ -13,8 +13,9 @@ use crate::logon::answer_logon;
 use crate::logon_fault::{LogonFault, logon_fault};
 use crate::ticks::{do_due, gives_anything};
 use fix_fields::{Fields, Text};
+use fix_types::AppBody;
 use session_law::{IssuedReport, Kind, Logged, Phase};
-use session_reading::{AppBody, due_at};
+use session_reading::due_at;
 use session_writing::{
     BodyReport, Names, SessionOut, Stamped, UndoBodies, append_written, issued_frame,
     report_of_body,

@@ -26,9 +26,8 @@ pub use application::{AppBody, AppMsg};
 pub use business_reject::BusinessReject;
 pub use cancel_reject::CancelReject;
 pub use cancel_request::{CancelRequest, read_cancel_request};
-pub use fix_values::{
-    Character, ClOrdId, Fields, SOH, SessionRefusal, SessionRejectReason, Text, TextFault, split,
-};
+pub use fix_fields::{Fields, SOH, SessionRefusal, SessionRejectReason, Text, split};
+pub use fix_values::{Character, ClOrdId, TextFault};
 pub use new_order::NewOrder;
 pub use new_order_reading::read_new_order;
 pub use replace_request::ReplaceRequest;

@@ -7,11 +7,12 @@ ghost use Rattle.fix_types.specs.NewOrder.{new_order_slots, IsNewOrder};
 use crate::new_order_reading::read_new_order;
 use crate::requests::new_order_refusal;
 use crate::terms::copied_terms;
+use fix_fields::{Fields, PrintedFields, Text};
 use fix_values::writing::{
     push_char, push_float, push_id, push_letter, push_optional_char, push_optional_float,
     push_optional_text, push_text,
 };
-use fix_values::{Character, ClOrdId, Fields, FloatText, PrintedFields, Text, TextFault};
+use fix_values::{Character, ClOrdId, FloatText, TextFault};
 use std::alloc::{AllocError, Global};
 use wire_law::TextWire;
 

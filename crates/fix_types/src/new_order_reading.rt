@@ -6,7 +6,7 @@ ghost use Rattle.fix_types.specs.Requests.{new_order_refusal};
 
 use crate::new_order::NewOrder;
 use crate::terms::terms_at;
-use fix_values::Fields;
+use fix_fields::Fields;
 use fix_values::reading::{char_at, id_at, optional_char_at, text_at};
 use std::alloc::{AllocError, Global};
 

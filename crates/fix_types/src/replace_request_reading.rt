@@ -6,7 +6,7 @@ ghost use Rattle.fix_types.specs.ReplaceRequest.{replace_request_of, IsReplaceRe
 
 use crate::replace_request::ReplaceRequest;
 use crate::terms::terms_at;
-use fix_values::Fields;
+use fix_fields::Fields;
 use fix_values::reading::{char_at, id_at, optional_char_at, optional_text_at};
 use std::alloc::{AllocError, Global};
 

@@ -2,10 +2,10 @@
 
 use crate::report_fields::{push_amounts, push_head};
 use crate::report_reading::read_report;
+use fix_fields::{Fields, PrintedFields, Text};
 use fix_values::writing::push_letter;
 use fix_values::{
-    Character, ClOrdId, ExecType, FieldValue, Fields, Format, OrdStatus, PrintedFields, Row, Text,
-    TextFault, first_refusal,
+    Character, ClOrdId, ExecType, FieldValue, Format, OrdStatus, Row, TextFault, first_refusal,
 };
 use std::alloc::{AllocError, Global};
 use wire_law::TextWire;

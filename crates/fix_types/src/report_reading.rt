@@ -6,11 +6,12 @@ ghost use Rattle.fix_types.specs.Report.{report_refusal, report_of, IsReport};
 ghost use Rattle.fix_types.specs.Terms.{report_texts_of};
 
 use crate::report::Report;
+use fix_fields::{Fields, Text};
+use fix_values::FieldValue;
 use fix_values::reading::{
     char_at, exec_type_at, id_at, number_in, optional_id_at, optional_number_in, optional_text_at,
     ord_status_at, text_at,
 };
-use fix_values::{FieldValue, Fields, Text};
 use std::alloc::{AllocError, Global};
 
 /// The texts of a report, but for its ids and its symbol. They are read in a call of their own: where memory is wanting

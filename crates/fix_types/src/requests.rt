@@ -5,7 +5,8 @@
 ghost use Rattle.std.specs.Prelude.{◌≡◌};
 ghost use Rattle.fix_types.specs.Requests as requests;
 
-use fix_values::{Fields, Format, Row, SessionRefusal, first_refusal};
+use fix_fields::{Fields, SessionRefusal};
+use fix_values::{Format, Row, first_refusal};
 
 /// The tags that a new order has to have, in the order in which they are judged.
 const NEW_ORDER_REQUIRED: [u32; 5] = [11, 54, 55, 38, 40];

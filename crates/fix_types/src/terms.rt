@@ -6,8 +6,9 @@ ghost use Rattle.fix_types.specs.Terms.{AreTermTexts, terms_said, terms_with};
 ghost use Rattle.fix_values.specs.Formats.{passes};
 ghost use Rattle.fix_values.specs.declared.format.Format.TheVariants as formats;
 
+use fix_fields::{Fields, Text};
 use fix_values::reading::{float_at, optional_float_at, optional_text_at};
-use fix_values::{Fields, FloatText, Text, copied_float, copied_text};
+use fix_values::{FloatText, copied_float, copied_text};
 use std::alloc::{AllocError, Global};
 
 /// The texts of an order's terms. They are read and copied in calls of their own: where memory is wanting a message

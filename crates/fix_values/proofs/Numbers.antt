@@ -5,8 +5,8 @@ use Rattle.std.specs.Char.{is_ascii_digit}
 use Rattle.std.specs.List.{list_all}
 use Rattle.std.proofs.lemmas.Bool.Decides.{nat_tests}
 use Rattle.std.proofs.lemmas.Fmt.{digits_decimal, digits_value-decimal, decimal_nonempty, length-decimal-le}
-use Rattle.decimal_digits.specs.Digits.{number_of, AreDigitsBelow}
-use Rattle.decimal_digits.proofs.Numbers.{own}
+use Rattle.wire_bytes.specs.Digits.{number_of, AreDigitsBelow}
+use Rattle.wire_bytes.proofs.Numbers.{own}
 use Rattle.fix_values.specs.Formats.{is_number}
 
 -- a number is read as it was written

@@ -6,8 +6,8 @@ use Rattle.std.specs.List.{list_all}
 use Rattle.std.specs.Option.{option_map}
 use Rattle.std.proofs.lemmas.Bool.Decides.{nat_tests}
 use Rattle.std.proofs.lemmas.Fmt.{digits_decimal}
-use Rattle.decimal_digits.specs.Digits.{number_of}
-use Rattle.decimal_digits.proofs.Numbers.{own}
+use Rattle.wire_bytes.specs.Digits.{number_of}
+use Rattle.wire_bytes.proofs.Numbers.{own}
 use Rattle.fix_fields.proofs.Tags.{and_parts}
 use Rattle.fix_values.specs.declared.format.Format.TheVariants as formats
 use Rattle.fix_values.specs.declared.cxl_rej_response_to.CxlRejResponseTo.{CxlRejResponseTo}

@@ -6,7 +6,7 @@ use Rattle.std.specs.List.{list_all, list_any}
 use Rattle.std.specs.Char.{is_ascii_digit}
 use Rattle.fix_fields.specs.Fault.{refusal}
 use Rattle.fix_fields.specs.Field.{Field, first_value}
-use Rattle.decimal_digits.specs.Digits.{number_of}
+use Rattle.wire_bytes.specs.Digits.{number_of}
 use Rattle.fix_values.specs.Texts.{is_cl_ord_id, is_float}
 use Rattle.fix_values.specs.declared.format.Format.{Format}
 use Rattle.fix_values.specs.declared.format.Format.TheVariants as formats

@@ -2,7 +2,7 @@
 
 ghost use Rattle.std.specs.Prelude.{◌≡◌, MatchOption, true, false};
 ghost use Rattle.std.specs.Option.{option_copied};
-ghost use Rattle.decimal_digits.specs.Digits.{number_of as digits_number};
+ghost use Rattle.wire_bytes.specs.Digits.{number_of as digits_number};
 ghost use Rattle.fix_fields.specs.Reasons.{session_reject_number};
 ghost use Rattle.fix_values.specs.Formats as spec;
 ghost use Rattle.fix_values.specs.Texts as texts;
@@ -118,7 +118,7 @@ pub fn number_of(digits: &[u8]) -> Option<u64>
     if digits.len() > 20 {
         return None;
     }
-    decimal_digits::number_of(digits)
+    wire_bytes::number_of(digits)
 }
 
 /// What a value of another format is refused with.

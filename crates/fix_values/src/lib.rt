@@ -29,9 +29,6 @@ pub use cxl_rej_reason::CxlRejReason;
 pub use cxl_rej_response_to::CxlRejResponseTo;
 pub use exec_type::ExecType;
 pub use field_value::FieldValue;
-pub use fix_fields::{
-    Fields, PrintedFields, SOH, SessionRefusal, SessionRejectReason, Text, split,
-};
 pub use float_text::FloatText;
 pub use format::{Format, Row, first_refusal};
 pub use ord_rej_reason::OrdRejReason;

@@ -3,8 +3,8 @@ use Rattle.std.proofs.Common.{◌≡◌, ℕ, ◌+◌, ◌-◌, ◌*◌, ◌^◌
 use Rattle.std.proofs.Common.{refl}
 use Rattle.std.proofs.Math.Nat.{pow-suc, pow-le-pow_right, mul-le-mul_left}
 use Rattle.std.proofs.lemmas.List.{take_all}
-use Rattle.decimal_digits.specs.Digits.{number_of}
-use Rattle.decimal_digits.proofs.Numbers.{number_of_more, number_of-take-le}
+use Rattle.wire_bytes.specs.Digits.{number_of}
+use Rattle.wire_bytes.proofs.Numbers.{number_of_more, number_of-take-le}
 
 -- one more digit
 pub exact_more : (start number next i : ℕ) (ds : List ℕ) → i < length ds

@@ -9,8 +9,8 @@ use Rattle.std.proofs.lemmas.Bool.Decides.{nat_tests}
 use Rattle.std.specs.Prelude.{◌==◌, ◌&&◌, ◌⊎◌, None, Some}
 use Rattle.std.specs.List.{list_all}
 use Rattle.std.specs.Char.{is_ascii_digit}
-use Rattle.decimal_digits.specs.Digits.{number_of}
-use Rattle.decimal_digits.proofs.Numbers.{digit_range, number_of-push, power_of_ten-pos, number_of_short}
+use Rattle.wire_bytes.specs.Digits.{number_of}
+use Rattle.wire_bytes.proofs.Numbers.{digit_range, number_of-push, power_of_ten-pos, number_of_short}
 use Rattle.fixed_point.specs.Steps.{capped, read_on}
 
 and_fails : (a b : Bool) → (a && b) ≡ false → (a ≡ false) ⊎ (b ≡ false)

@@ -11,11 +11,11 @@ use Rattle.std.proofs.lemmas.Fmt.{decimal_by_steps_wide}
 use Rattle.std.specs.Prelude.{◌==◌, nat_lt, if◌then◌else◌, decimal, Some}
 use Rattle.std.specs.List.{list_all}
 use Rattle.std.specs.Char.{is_ascii_digit}
-use Rattle.decimal_digits.specs.Digits.{number_of}
+use Rattle.wire_bytes.specs.Digits.{number_of}
 use Rattle.fixed_point.specs.Decimal.{is_negative, without_sign, whole, behind, are_digits, fraction, fraction_of}
 use Rattle.fixed_point.specs.Decimal.{scaled, worth, worth_of}
 use Rattle.fixed_point.specs.Price.{four_digits, significant, price_text}
-use Rattle.decimal_digits.proofs.Numbers.{number_of-push}
+use Rattle.wire_bytes.proofs.Numbers.{number_of-push}
 use Rattle.fixed_point.proofs.Numbers.{first_digit, other_digits}
 use Rattle.fixed_point.proofs.Points.{whole_before, behind_after, whole_of_all, behind_none}
 use Rattle.fixed_point.proofs.Sizes.{scaled_exact}

@@ -11,10 +11,10 @@ use Rattle.std.specs.Prelude.{◌==◌, ◌&&◌, nat_lt, if◌then◌else◌, O
 use Rattle.std.specs.List.{list_all}
 use Rattle.fixed_point.specs.declared.refusal.DecimalRefusal.TheVariants.{NotFloat, NotExact}
 use Rattle.std.specs.Char.{is_ascii_digit}
-use Rattle.decimal_digits.specs.Digits.{number_of}
+use Rattle.wire_bytes.specs.Digits.{number_of}
 use Rattle.fixed_point.specs.Decimal.{Fraction, are_digits, scaled, fraction_of}
 use Rattle.fixed_point.specs.Steps.{capped, read_on, scaled_size}
-use Rattle.decimal_digits.proofs.Numbers.{power-append, number_of-append, power_of_ten-pos}
+use Rattle.wire_bytes.proofs.Numbers.{power-append, number_of-append, power_of_ten-pos}
 use Rattle.fixed_point.proofs.Numbers.{number_of-lt, zeros_number, number_of-pos}
 
 -- a fraction that is n whole

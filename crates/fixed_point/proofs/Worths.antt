@@ -10,7 +10,7 @@ use Rattle.std.specs.List.{list_all}
 use Rattle.fixed_point.specs.declared.worth.WorthRefusal.{WorthRefusal}
 use Rattle.fixed_point.specs.declared.worth.WorthRefusal.TheVariants.{NoWorth, TooLarge}
 use Rattle.std.specs.Char.{is_ascii_digit}
-use Rattle.decimal_digits.specs.Digits.{number_of}
+use Rattle.wire_bytes.specs.Digits.{number_of}
 use Rattle.fixed_point.specs.Decimal.{are_digits, scaled, fraction_of, fraction, is_negative, without_sign, whole}
 use Rattle.fixed_point.specs.Decimal.{behind, not_below_zero, worth_of, worth}
 use Rattle.fixed_point.specs.Worth.{counted}

@@ -2,7 +2,7 @@
 use Rattle.std.specs.Prelude.{ℕ, ◌+◌, ◌*◌, ◌^◌, if◌then◌else◌, List, length, min, Option, None, Some, Result, Ok, Err}
 use Rattle.std.specs.Char.{is_ascii_digit}
 use Rattle.std.specs.List.{list_all}
-use Rattle.decimal_digits.specs.Digits.{number_of}
+use Rattle.wire_bytes.specs.Digits.{number_of}
 use Rattle.fixed_point.specs.declared.refusal.DecimalRefusal.{DecimalRefusal}
 use Rattle.fixed_point.specs.declared.refusal.DecimalRefusal.TheVariants.{NotFloat, NotExact}
 use Rattle.fixed_point.specs.Decimal.{Fraction, scaled}

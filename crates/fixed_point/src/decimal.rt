@@ -6,7 +6,7 @@ ghost use Rattle.fixed_point.specs.Steps.{scaled_size};
 
 use crate::digits::{TOO_LARGE, are_zeros, power_of_ten, read_on};
 use crate::refusal::DecimalRefusal;
-use decimal_digits::are_digits;
+use wire_bytes::are_digits;
 
 /// Whether a `-` stands in front, and what stands behind it.
 pub fn sign_of(text: &[u8]) -> (bool, &[u8])

@@ -1,10 +1,10 @@
 //! Digits that are read on behind others: up to a cap, since a number that is too large is out of range and no reason
-//! to stop looking for what is no digit; and up to 2^128, where a worth has no range. `decimal_digits` reads all
+//! to stop looking for what is no digit; and up to 2^128, where a worth has no range. `wire_bytes` reads all
 //! others.
 
 ghost use Rattle.std.specs.Prelude.{◌≡◌, ◌^◌, ◌≤◌, ◌<◌, ◌+◌, ◌*◌, ◌==◌, IfSome, SomeIff, length};
 ghost use Rattle.std.specs.List.{list_all};
-ghost use Rattle.decimal_digits.specs.Digits.{number_of};
+ghost use Rattle.wire_bytes.specs.Digits.{number_of};
 ghost use Rattle.fixed_point.specs.Steps as steps;
 
 /// Above every amount; a number that reaches it stays there, so that no number of digits makes it wrap.

@@ -1,7 +1,7 @@
 //! What a text is worth, with no range: as reports carry prices and averages.
 
 ghost use Rattle.std.specs.Prelude.{◌≡◌, ◌≤◌, ◌<◌, ◌+◌, ◌-◌, ◌*◌, ◌^◌, ◌++◌, ℕ, true, false, Some, SomeIff, length};
-ghost use Rattle.decimal_digits.specs.Digits.{number_of};
+ghost use Rattle.wire_bytes.specs.Digits.{number_of};
 ghost use Rattle.fixed_point.specs.Decimal as decimal;
 ghost use Rattle.fixed_point.specs.Worth.{counted};
 

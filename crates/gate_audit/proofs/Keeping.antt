@@ -116,3 +116,11 @@ kept-reading all x key o found client order is are =
     subst (λ (f : Option (Option Reading)). IsReadAs o.order (sent_to o.client all) (unwrap_or f (Some unread))) is
     (subst (λ (t : List ℕ). IsReadAs t (sent_to o.client all) (kept_of x key)) order
     (subst (λ (k : ℕ). IsReadAs key.order.items (sent_to k all) (kept_of x key)) client (are.read key)))
+
+-- in another order, or with other room
+pub kept-same : (all : List SaidToClient) (x y : KeptReadings)
+    → ((q : OrderKey) → get same_order y.readings q ≡ get same_order x.readings q) → AreKept all x → AreKept all y
+kept-same all x y same are = record {
+  read = λ k. subst (IsReadAs k.order.items (sent_to k.client all))
+      (ap (λ (f : Option (Option Reading)). unwrap_or f (Some unread)) (sym (same k))) (are.read k);
+}

@@ -9,8 +9,8 @@ use Rattle.market_law.specs.declared.row.BookRow.{BookRow}
 use Rattle.gate_core.specs.gate_settings.Kept.{IsOnPort}
 use Rattle.gate_law.specs.Settings.{Settings, has_port, port_of}
 use Rattle.gate_law.specs.Events.{History}
-use Rattle.world_links.specs.World as world
-use Rattle.world_links.specs.World.{World}
+use Rattle.world_law.specs.World as world
+use Rattle.world_law.specs.World.{World}
 use Rattle.closed_world.specs.declared.step.WorldStep.{WorldStep}
 use Rattle.closed_world.specs.Steps.{step_seen}
 use Rattle.gate_audit.specs.Pairs.{OpenedOrder, opened_orders, orders_of, said_to_clients}

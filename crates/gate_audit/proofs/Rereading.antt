@@ -9,8 +9,8 @@ use Rattle.gate_law.specs.fix_fields.Field.{Message, is, text}
 use Rattle.order_law.specs.Headline.{Each}
 use Rattle.order_law.specs.Reading.{is_report, is_report_on, reading, unread, with_report}
 use Rattle.order_accounts.specs.Held.{IsHeld, StaysHeld, heard_on}
-use Rattle.order_shelves.specs.Shelved.{AreBelow, IsNear, places_of}
-use Rattle.order_shelves.proofs.Shelving.{places-below}
+use Rattle.order_accounts.specs.Shelved.{AreBelow, IsNear, places_of}
+use Rattle.order_accounts.proofs.Shelving.{places-below}
 use Rattle.gate_audit.specs.Pairs.{SaidToClient, said_to}
 use Rattle.gate_audit.specs.Read.{ReadOrder}
 use Rattle.gate_audit.specs.Passes.{AreRead, HasHeld, StayRead, changed, changed_at, hears, order_id, read_as, sent_to}

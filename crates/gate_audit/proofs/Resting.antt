@@ -12,8 +12,8 @@ use Rattle.order_law.specs.Headline.{Each, EachWith}
 use Rattle.gate_law.specs.Settings.{Settings, port_of}
 use Rattle.gate_law.specs.Holds.{Holds}
 use Rattle.world_law.specs.Rows.{ReadsAsBook}
-use Rattle.world_links.specs.World.{World}
-use Rattle.world_links.specs.Promises.{IsAtRest, RestsAlike, turns_of}
+use Rattle.world_law.specs.World.{World}
+use Rattle.world_law.specs.Promises.{IsAtRest, RestsAlike, turns_of}
 use Rattle.gate_audit.specs.Pairs.{OpenedOrder, Pair, accepted_pair, accepted_pairs, accepted_pairs_of}
 use Rattle.gate_audit.specs.Played.{AgreesWithBook, IsAsBook, book_of, books, books_of}
 use Rattle.gate_audit.specs.Read.{accepted_new_orders, for_clients}

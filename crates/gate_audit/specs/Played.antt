@@ -9,9 +9,9 @@ use Rattle.gate_law.specs.Settings.{Settings, port_of}
 use Rattle.gate_law.specs.Holds.{Holds}
 use Rattle.gate_journal.specs.Kept.{Kept, turns}
 use Rattle.world_law.specs.Rows.{HasSide}
-use Rattle.world_links.specs.World.{LeadsTo, World, WorldStep}
-use Rattle.world_core.specs.Ports.{NoFaults}
-use Rattle.world_links.specs.Promises.{AsksOnce, FillsOrKills, FindOne, IsAtRest, RestsAlike, StayWithin}
+use Rattle.world_law.specs.World.{LeadsTo, World, WorldStep}
+use Rattle.world_law.specs.Ports.{NoFaults}
+use Rattle.world_law.specs.Promises.{AsksOnce, FillsOrKills, FindOne, IsAtRest, RestsAlike, StayWithin}
 use Rattle.gate_audit.specs.Pairs.{OpenedOrder, Pair, opened_orders, orders_of, pairs, said_to_clients}
 use Rattle.gate_audit.specs.Read.{for_clients}
 

@@ -9,9 +9,9 @@ ghost use Rattle.gate_audit.specs.Passes.{told_more, told_whole};
 
 use crate::order_reading::OrderReading;
 use crate::reports::{opens_order, text};
+use fix_fields::{Fields, Text};
 use gate_core::{Batch, IssuedReport};
 use gate_journal::History;
-use gate_law::{Fields, Text};
 use order_accounts::Reading;
 use std::alloc::{AllocError, Global};
 

@@ -12,9 +12,9 @@ ghost use Rattle.gate_audit.specs.Read.{ReadOrder, for_clients};
 use crate::accepted::accepted_of;
 use crate::order_reading::OrderReading;
 use crate::order_readings::OrderReadings;
+use fix_fields::Text;
 use gate_core::Settings;
 use gate_journal::History;
-use gate_law::Text;
 use order_accounts::{Reading, ReadingFault};
 use std::alloc::{AllocError, Global};
 

@@ -76,12 +76,13 @@ impl DayAudit {
     {
         let DayAudit {
             openings,
-            readings,
+            mut readings,
             ports,
         } = self;
         if ports.len() != settings.ports().len() {
             return Ok(Vec::new(alloc));
         }
+        readings.shrink();
         let clients = settings.clients().len();
         let orders = openings.orders.as_slice();
         let fix = fix_accounts(alloc, clients, orders, readings)?;

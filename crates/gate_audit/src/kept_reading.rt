@@ -7,7 +7,7 @@ ghost use Rattle.order_law.specs.Reading.{account_read, reading, unread};
 ghost use Rattle.gate_audit.specs.Kept.{IsReadAs};
 
 use crate::reports::text;
-use gate_law::Fields;
+use fix_fields::Fields;
 use order_accounts::{Reading, ReadingFault};
 use order_law::Account;
 use std::alloc::{AllocError, Global};

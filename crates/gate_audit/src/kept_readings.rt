@@ -11,7 +11,7 @@ use crate::kept_reading::KeptReading;
 use crate::opening::Opening;
 use crate::order_key::OrderKey;
 use crate::reports::text;
-use gate_law::Fields;
+use fix_fields::Fields;
 use order_accounts::{Reading, ReadingFault};
 use order_law::Account;
 use std::alloc::{AllocError, Global};
@@ -43,6 +43,13 @@ impl KeptReadings {
         let kept = before.with_report(alloc, report)?;
         self.readings.insert(key, kept)?;
         Ok(())
+    }
+
+    /// Gives back the memory that is there for further orders.
+    pub fn shrink(&mut self)
+        ensures { (all : List SaidToClient) → AreKept all self.old → AreKept all self.new }
+    {
+        self.readings.shrink_to_fit();
     }
 
     /// An order's account, as its client read it. `TooLarge` just where, after one of the reports, what was read has a

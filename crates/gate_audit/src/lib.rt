@@ -30,17 +30,9 @@ mod reports;
 mod told;
 
 pub use accounts::readings;
-pub use closed_world::{BookRow, Choice, WorldStep};
 pub use day_audit::DayAudit;
-pub use gate_core::Settings;
-pub use gate_events::PortNumber;
-pub use gate_journal::History;
 pub use messages::handled_messages;
-pub use order_accounts::ReadingFault;
-pub use order_law::Account;
 pub use order_pair::OrderPair;
 pub use order_reading::OrderReading;
 pub use pairs::audit;
 pub use played::{Played, play};
-pub use soup_packets::{Packet, Payload};
-pub use soup_session::PortFault;

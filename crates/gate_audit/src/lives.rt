@@ -12,8 +12,8 @@ use crate::messages::HandledSoFar;
 use crate::opening::Opening;
 use crate::openings::Openings;
 use gate_core::Settings;
+use order_accounts::MessageShelves;
 use order_law::Account;
-use order_shelves::MessageShelves;
 use std::alloc::{AllocError, Global};
 
 /// Shelves for the messages of a port: of more tokens than these several may lead to one shelf.

@@ -16,7 +16,7 @@ ghost use Rattle.gate_audit.specs.Again.{called_again};
 use crate::port_again::PortAgain;
 use gate_core::{Batch, Event, PortNumber, PortSettings, Settings};
 use gate_journal::History;
-use order_accounts::Outbound;
+use ouch_codec::Outbound;
 use std::alloc::{AllocError, Global};
 
 /// So many turns of a history are stepped: any that came later changed nothing.

@@ -1,8 +1,8 @@
 //! An order, as the report that opened it has it.
 
-use gate_law::Text;
-use order_law::Token;
+use fix_fields::Text;
 use std::marker::Model;
+use tokens::Token;
 
 /// An order that was accepted, as the report that told so has it.
 #[derive(Drop)]

@@ -14,12 +14,12 @@ ghost use Rattle.gate_audit.specs.Passes.{told_more, told_whole};
 use crate::growing::push_slowly;
 use crate::opening::Opening;
 use crate::reports::{first_byte, gives_token, opens_order, text};
+use fix_fields::{Fields, Text};
 use gate_core::{Batch, IssuedReport};
 use gate_journal::History;
-use gate_law::{Fields, Text};
 use order_accounts::ReadingFault;
-use order_law::Token;
 use std::alloc::Global;
+use tokens::Token;
 
 /// The orders that were opened so far, and how many tokens were given.
 #[derive(Drop)]

@@ -3,7 +3,7 @@
 ghost use Rattle.std.specs.Prelude.{◌≡◌, OnOk, IsErrOf};
 ghost use Rattle.gate_audit.specs.Passes.{HasHeld, hears, order_id};
 
-use gate_law::{Fields, Text};
+use fix_fields::{Fields, Text};
 use order_accounts::{Reading, ReadingFault};
 use std::alloc::Global;
 use std::marker::Model;

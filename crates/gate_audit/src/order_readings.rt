@@ -3,7 +3,7 @@
 ghost use Rattle.std.specs.Prelude.{◌≡◌, ◌<◌, ◌++◌, ◌∷◌, ℕ, List, IfOk, OnOk, IsErrOf, get_or, length, map, reverse};
 ghost use Rattle.std.specs.Prelude.{take};
 ghost use Rattle.order_law.specs.Headline.{Each};
-ghost use Rattle.order_shelves.specs.Shelved.{AreBelow, HasOrders};
+ghost use Rattle.order_accounts.specs.Shelved.{AreBelow, HasOrders};
 ghost use Rattle.gate_events.specs.Seen.{batch_seen};
 ghost use Rattle.gate_audit.specs.Pairs.{SaidToClient, said_to};
 ghost use Rattle.gate_audit.specs.Read.{ReadOrder};
@@ -11,10 +11,9 @@ ghost use Rattle.gate_audit.specs.Passes.{AreRead, HasHeld, StayRead, changed_at
 
 use crate::order_reading::OrderReading;
 use crate::reports::text;
+use fix_fields::Fields;
 use gate_core::{Batch, IssuedReport};
-use gate_law::Fields;
-use order_accounts::ReadingFault;
-use order_shelves::OrderPlaces;
+use order_accounts::{OrderPlaces, ReadingFault};
 use std::alloc::{AllocError, Global};
 use std::marker::Model;
 
@@ -27,7 +26,7 @@ pub struct OrderReadings {
 
 impl Model for OrderReadings {
     ghost use Rattle.std.specs.Prelude.{List, map};
-    ghost use Rattle.order_shelves.specs.Shelved.{HasOrders};
+    ghost use Rattle.order_accounts.specs.Shelved.{HasOrders};
     ghost use Rattle.gate_audit.specs.Read.{ReadOrder};
     ghost use Rattle.gate_audit.specs.Passes.{order_id};
 

@@ -22,7 +22,7 @@ use std::alloc::Global;
 /// or more tokens were given than there are; or else `NoMemory`.
 ///
 /// The history is gone through once, and never more than one turn of it is in memory (`DayAudit`). An order is found by
-/// its client and OrderID, and the messages on it by its first token (`order_shelves`).
+/// its client and OrderID, and the messages on it by its first token (`order_accounts`).
 ///
 /// Source: FIX 4.4 Volume 4, "Execution Report"; OUCH 4.2, "Outbound Messages".
 pub fn audit(

@@ -4,9 +4,9 @@ ghost use Rattle.std.specs.Prelude.{◌≡◌, ◌++◌, true, List, IfOk, map, 
 ghost use Rattle.order_machine.specs.Runs.{IsTableRun};
 ghost use Rattle.gate_law.specs.Settings as law;
 ghost use Rattle.gate_law.specs.Holds.{Holds};
-ghost use Rattle.world_links.specs.World as world;
-ghost use Rattle.world_links.specs.World.{LeadsTo, World};
-ghost use Rattle.world_links.specs.Promises.{turns_of};
+ghost use Rattle.world_law.specs.World as world;
+ghost use Rattle.world_law.specs.World.{LeadsTo, World};
+ghost use Rattle.world_law.specs.Promises.{turns_of};
 ghost use Rattle.closed_world.specs.Steps.{step_seen};
 ghost use Rattle.closed_world.specs.Worlds.{IsAsWorld, IsWorld};
 ghost use Rattle.gate_audit.specs.Pairs as read;
@@ -17,12 +17,13 @@ use crate::opening::Opening;
 use crate::openings::openings_of;
 use crate::order_pair::OrderPair;
 use crate::pairs::audit;
-use closed_world::{BookRow, ClosedWorld, WorldStep};
+use closed_world::{ClosedWorld, WorldStep};
 use gate_core::Settings;
 use gate_journal::History;
+use market_law::BookRow;
 use order_accounts::ReadingFault;
 use std::alloc::{AllocError, Global};
-use world_links::{
+use world_law::{
     at_rest_both_agree, cancels_of_a_request_find_one_token, fill_or_kill_executes_all_or_nothing,
     no_batch_has_a_fault, orders_stay_within_what_was_accepted, what_is_asked_is_done_once,
 };

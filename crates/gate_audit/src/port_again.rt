@@ -13,7 +13,7 @@ ghost use Rattle.gate_audit.specs.Called.{IsAgain};
 use crate::growing::push_slowly;
 use gate_core::{Batch, Event, PortFault, PortNumber, PortSession, PortSettings};
 use gate_events::closes_link;
-use order_accounts::{Outbound, decode};
+use ouch_codec::{Outbound, decode};
 use soup_packets::{Packet, Payload};
 use std::alloc::{AllocError, Global};
 

@@ -6,7 +6,7 @@ ghost use Rattle.gate_law.specs.fix_fields.Field as tags;
 ghost use Rattle.gate_audit.specs.Pairs as pairs;
 ghost use Rattle.gate_audit.specs.Read.{opens_new_order};
 
-use gate_law::Fields;
+use fix_fields::Fields;
 
 /// The value of a tag, or no bytes where there is none.
 pub fn text(report: &Fields, tag: u32) -> &[u8]

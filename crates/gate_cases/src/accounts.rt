@@ -2,8 +2,9 @@
 
 use case_lines::bytes_of;
 use fix_fields::{Fields, split};
-use order_accounts::{Outbound, ReadingFault, decode, life_of, reading_of};
+use order_accounts::{ReadingFault, life_of, reading_of};
 use order_law::Account;
+use ouch_codec::{Outbound, decode};
 use std::alloc::{AllocError, Global};
 
 /// The order's token.

@@ -2,16 +2,16 @@
 //! at once.
 
 mod both;
-mod pens;
 mod steps;
+mod writers;
 
 use crate::scripts::push_said;
 pub use both::left_by_both;
-use pens::show_pen;
 use std::alloc::{AllocError, Global};
 use std::sync::Wait;
 use std::time::Clock;
 use steps::show_steps;
+use writers::show_writer;
 
 /// The steps of a desk, each a line, so far.
 #[derive(Drop)]
@@ -41,7 +41,7 @@ impl Desks {
                 self.steps.clear();
                 Ok(())
             }
-            "pen" => show_pen(rt, alloc, shown),
+            "writer" => show_writer(rt, alloc, shown),
             _ => push_said(&mut self.steps, line.as_bytes()),
         }
     }

@@ -3,12 +3,14 @@
 use crate::calls::add_end;
 use crate::events::{Here, event_of, small_number};
 use crate::streams::{Failing, size_of};
-use audit_lines::{OrderPair, audit, audit_text, write_audit};
 use case_lines::{bytes_of, first_word, shown as typed};
 use fix_fields::{PrintedFields, printed_fields, split};
+use gate_audit::{OrderPair, audit};
 use gate_core::{Batch, ClientNumber, IssuedReport, LinkOut, PortNumber, ShortList, run_all};
+use gate_journal::History;
+use gate_lines::{audit_text, write_audit};
 use order_law::Account;
-use script_steps::{History, fixed_settings};
+use script_steps::fixed_settings;
 use std::alloc::{AllocError, Global};
 use std::mem;
 

@@ -2,8 +2,8 @@
 
 use crate::calls::add_end;
 use case_lines::number_of;
+use command_lines::run_program;
 use gate_lines::{Flags, run_script};
-use script_command::run_program;
 use std::alloc::{AllocError, Global};
 use std::io::{self, ErrorKind, Read, Write};
 use std::str;

@@ -5,7 +5,7 @@ use Rattle.soup_session.specs.Calls.{next_of}
 use Rattle.gate_sessions.specs.order_law.History as orders
 use Rattle.order_core.specs.State as core
 use Rattle.order_core.specs.State.{IsAfterTurns}
-use Rattle.order_core.specs.order_ledger.State as ledger
+use Rattle.order_core.specs.LedgerState as ledger
 use Rattle.gate_law.specs.Settings.{Settings, has_client, terms, port_of}
 use Rattle.gate_law.specs.Lists.{Lists}
 use Rattle.gate_law.specs.Clients.{AreFrom}

@@ -13,12 +13,12 @@ mod whole;
 
 pub use board::{Board, ClientRow, PortRow};
 pub use fix_fields::Text;
-pub use gate_events::{Batch, ClientFrame, ClientNumber, Event, LinkOut, PortNumber};
-pub use gate_settings::{ClientSettings, ClientTerms, PortSettings, Settings};
+pub use gate_events::{Batch, ClientFrame, ClientNumber, Event, LinkOut, PortNumber, ShortList};
+pub use gate_settings::{ClientSettings, PortSettings, Settings};
 pub use ouch_codec::EnterOrder;
 pub use runs::run_all;
 pub use session_law::IssuedReport;
-pub use short_list::ShortList;
 pub use soup_session::{PortFault, PortSession, PortState};
 pub use targets::Targets;
+pub use to_market::ClientTerms;
 pub use whole::Core;

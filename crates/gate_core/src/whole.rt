@@ -142,6 +142,7 @@ impl<S: BuildHasher + Drop> Core<S> {
         let stepped = self.advance(alloc, event);
         if stepped.is_err() {
             self.undo();
+            return stepped;
         }
         stepped
     }

@@ -1,2 +1,3 @@
+mod OneItem
 mod AnyOf
 mod Sources

@@ -1,3 +1,5 @@
+pub mod ShortList
+pub mod Held
 pub mod Seen
 pub mod Closing
 pub mod Batches

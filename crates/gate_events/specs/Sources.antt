@@ -38,9 +38,9 @@ abbrev pub events_from : Source → List Event → List Event
 events_from source events = filter (is_from source) events
 
 -- what a batch tells one link
-abbrev pub told_to : Recipient → Batch → List LinkOut
-told_to (recipients.Client n) batch = if is_the_number n batch.client then batch.client_out else []
-told_to (recipients.Port n) batch = if is_the_number n batch.port then batch.port_out else []
+abbrev pub output_to : Recipient → Batch → List LinkOut
+output_to (recipients.Client n) batch = if is_the_number n batch.client then batch.client_out else []
+output_to (recipients.Port n) batch = if is_the_number n batch.port then batch.port_out else []
 
 -- a list, where something is in it
 abbrev pub unless_empty : {A : Type 0} → List A → List (List A)
@@ -50,4 +50,4 @@ unless_empty (x ∷ xs) = (x ∷ xs) ∷ []
 -- what batches tell one link, a list for each batch that tells it something, in order
 abbrev pub lists_to : Recipient → List Batch → List (List LinkOut)
 lists_to to [] = []
-lists_to to (batch ∷ batches) = unless_empty (told_to to batch) ++ lists_to to batches
+lists_to to (batch ∷ batches) = unless_empty (output_to to batch) ++ lists_to to batches

@@ -3,9 +3,9 @@
 ghost use Rattle.std.specs.Prelude.{◌≡◌, ◌==◌, ◌&&◌, not, is_some, length};
 
 use crate::number::{ClientNumber, PortNumber};
-use crate::told::Told;
+use crate::output::Output;
+use crate::short_list::ShortList;
 use session_law::IssuedReport;
-use short_list::ShortList;
 use soup_session::PortFault;
 
 /// One output to a link.
@@ -56,7 +56,7 @@ impl Batch {
     ghost use Rattle.gate_events.specs.Seen.{link_out_seen};
 
     /// The outputs to its client's link and to its port's, moved out. Takes no memory.
-    pub fn into_told(self) -> (Told, Told)
+    pub fn into_outputs(self) -> (Output, Output)
         ensures client { result.0 ≡ map link_out_seen self.client_out.items }
         ensures port { result.1 ≡ map link_out_seen self.port_out.items }
     {
@@ -68,6 +68,6 @@ impl Batch {
             port_out,
             fault: _,
         } = self;
-        (Told::of(client_out), Told::of(port_out))
+        (Output::of(client_out), Output::of(port_out))
     }
 }

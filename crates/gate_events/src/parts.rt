@@ -7,8 +7,8 @@ ghost use Rattle.gate_events.specs.Batches.{batch_of};
 
 use crate::batch::{Batch, LinkOut};
 use crate::number::{ClientNumber, PortNumber};
+use crate::short_list::ShortList;
 use session_law::IssuedReport;
-use short_list::ShortList;
 use soup_session::PortFault;
 use std::alloc::{AllocError, Global};
 

@@ -2,7 +2,7 @@
 
 ghost use Rattle.std.specs.Prelude.{◌≡◌, IfOk, map};
 ghost use Rattle.gate_events.specs.Seen.{batch_seen, link_out_seen};
-ghost use Rattle.gate_events.specs.Sources.{is_from, is_same_source, source_of, told_to};
+ghost use Rattle.gate_events.specs.Sources.{is_from, is_same_source, source_of, output_to};
 ghost use Rattle.gate_events.specs.declared.source.Source.TheVariants as sources;
 
 use crate::batch::{Batch, LinkOut};
@@ -166,8 +166,8 @@ impl ClientFrame {
 
 impl Batch {
     /// The output to a client's or a port's link, in order; nothing where the batch doesn't name it. Takes no memory.
-    pub fn told(&self, to: Recipient) -> &[LinkOut]
-        ensures { map link_out_seen result.now ≡ told_to to (batch_seen self.now) }
+    pub fn output(&self, to: Recipient) -> &[LinkOut]
+        ensures { map link_out_seen result.now ≡ output_to to (batch_seen self.now) }
     {
         match to {
             Recipient::Client(client) if self.names_client(client) => &self.client_out,

@@ -5,3 +5,6 @@ pub mod Lawful
 pub mod Links
 pub mod Served
 pub mod Sent
+pub mod AskedSoFar
+pub mod ReadAlike
+pub mod AcceptedTotals

@@ -1,5 +1,5 @@
-//! Histories of the whole core that are written down, event by event with their batches, on which the definitions of
-//! `gate_law` are computed.
+//! Histories of the whole core, and exchanges of the closed world, that are written down: on them the definitions of
+//! `gate_law` and `world_law` are computed.
 //!
 //! There is nothing to call, and no crate stands on this one: it shows which batches `gate_law` accepts, and which it
 //! refuses.

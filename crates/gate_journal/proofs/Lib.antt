@@ -2,3 +2,4 @@ mod Behind
 mod Growing
 mod Turning
 pub mod Parted
+pub mod Days

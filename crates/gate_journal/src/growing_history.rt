@@ -8,8 +8,9 @@ ghost use Rattle.journal_records.specs.Parts.{turn_records};
 
 use crate::history::History;
 use gate_events::{Batch, Event};
-use journal_records::{DayPages, append_turn};
-use noted_bytes::NotedPages;
+use journal_days::DayPages;
+use journal_pages::NotedPages;
+use journal_records::append_turn;
 use std::alloc::{AllocError, Global};
 use std::marker::Model;
 

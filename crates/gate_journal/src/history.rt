@@ -16,11 +16,10 @@ ghost use Rattle.journal_records.specs.Parts.{turn_records};
 
 use crate::turn_pages::TurnPages;
 use crate::turns::Turns;
-use gate_events::{Batch, Event, Recipient, Source, Told, told_lists};
-use journal_pages::{PageFault, RecordKind};
-use journal_records::{
-    DayPages, DayRecords, Version, append_turn, batches_of, events_of, judge_day,
-};
+use gate_events::{Batch, Event, Output, Recipient, Source, output_lists};
+use journal_days::{DayPages, DayRecords, judge_day};
+use journal_pages::{PageFault, RecordKind, Version};
+use journal_records::{append_turn, batches_of, events_of};
 use std::alloc::{AllocError, Global};
 use std::marker::Model;
 
@@ -127,11 +126,11 @@ impl History {
     }
 
     /// What the batches told one link, in order, read from the pages: a list for each batch that told it something.
-    pub fn to(&self, alloc: Global, recipient: Recipient) -> Result<Vec<Told>, AllocError>
+    pub fn to(&self, alloc: Global, recipient: Recipient) -> Result<Vec<Output>, AllocError>
         ensures { IfOk result (λ lists. lists.items ≡ lists_to recipient self.now.batches) }
     {
         let batches = self.batches(alloc)?;
-        told_lists(alloc, batches.as_slice(), recipient)
+        output_lists(alloc, batches.as_slice(), recipient)
     }
 
     /// The pages, the oldest first, all of version 2. Read again they are this history.

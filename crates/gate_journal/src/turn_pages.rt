@@ -5,7 +5,8 @@ ghost use Rattle.journal_records.specs.journal_days.Cut.{texts};
 
 use crate::history::count_of;
 use crate::turns::Turns;
-use journal_records::{DayRecords, Version};
+use journal_days::DayRecords;
+use journal_pages::Version;
 use std::marker::Model;
 
 /// Pages of version 2, and the turns that they say: a part of a day, say, whose first page begins with an event and

@@ -7,7 +7,9 @@ ghost use Rattle.gate_journal.specs.Kept.{kept_in};
 ghost use Rattle.gate_journal.specs.Left.{batches_left, events_left};
 
 use gate_events::{Batch, Event};
-use journal_records::{DayRecords, Version, batch_of, event_of};
+use journal_days::DayRecords;
+use journal_pages::Version;
+use journal_records::{batch_of, event_of};
 use std::alloc::{AllocError, Global};
 
 /// Turns that are still to be read, the oldest first: events, each with the batch that it gave. They lie in the pages

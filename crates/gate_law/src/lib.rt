@@ -7,13 +7,9 @@
 
 mod laws;
 
-pub use fix_fields::{Fields, Text};
 pub use laws::{
     links_are_current_while_sessions_are_open, other_events_change_nothing,
     packets_have_the_messages_sent, payloads_are_told_to_clients_that_came, runs_tell_what_is_told,
     second_links_are_closed, sends_leave_the_state, steps_keep_the_promises,
     turns_are_no_more_than_events,
 };
-pub use order_law::Inbound;
-pub use soup_packets::Packet;
-pub use soup_session::{PortFault, PortOut, PortSession, PortState, PortTurn};

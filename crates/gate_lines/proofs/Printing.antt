@@ -4,12 +4,12 @@ use Rattle.std.proofs.Common.{IsErrAnd, IfErr, OnOk, ◌⊎◌, inl, inr, length
 use Rattle.std.specs.Io.KnownBytes.{Keeps}
 use Rattle.std.proofs.KnownBytes.{Appends-nil, Appends-trans, Appends-kept, Keeps-refl, Keeps-trans}
 use Rattle.std.proofs.lemmas.Fn.{FoldsTo-push}
-use Rattle.batch_lines.specs.declared.flags.Flags.{Flags}
+use Rattle.gate_lines.specs.declared.flags.Flags.{Flags}
 use Rattle.script_steps.specs.script_lines.declared.fault.LineFault.TheVariants as line_fault
-use Rattle.audit_lines.specs.text_lines.declared.stream_fault.StreamFault.{StreamFault}
-use Rattle.audit_lines.specs.text_lines.declared.stream_fault.StreamFault.TheVariants as stream_fault
-use Rattle.audit_lines.specs.text_lines.Unread.{GivesLine, lines_of}
-use Rattle.audit_lines.proofs.text_lines.Given.{Leaves, all-given, first-given}
+use Rattle.wire_streams.specs.declared.stream_fault.StreamFault.{StreamFault}
+use Rattle.wire_streams.specs.declared.stream_fault.StreamFault.TheVariants as stream_fault
+use Rattle.wire_streams.specs.Unread.{GivesLine, lines_of}
+use Rattle.wire_streams.proofs.Given.{Leaves, all-given, first-given}
 use Rattle.script_steps.specs.Standing.{Runner}
 use Rattle.gate_lines.specs.declared.stop.Stop.{Stop}
 use Rattle.gate_lines.specs.declared.stop.Stop.TheVariants.{NotUnderstood, NoMemory, Stream}

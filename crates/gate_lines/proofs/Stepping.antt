@@ -1,9 +1,9 @@
 -- The lines of a script step a runner, one after another.
 use Rattle.std.proofs.Common.{ℕ, List, Option, None, Some, IfSome, subst}
 use Rattle.std.specs.List.{FoldsTo}
-use Rattle.audit_lines.specs.gate_audit.gate_journal.Kept.{Kept}
-use Rattle.audit_lines.specs.text_lines.Unread.{GivesLine, lines_of}
-use Rattle.audit_lines.proofs.text_lines.Given.{Leaves, all-given}
+use Rattle.gate_audit.specs.gate_journal.Kept.{Kept}
+use Rattle.wire_streams.specs.Unread.{GivesLine, lines_of}
+use Rattle.wire_streams.proofs.Given.{Leaves, all-given}
 use Rattle.script_steps.specs.Standing.{IsTextStep, IsWarm, RunSoFar, Runner}
 use Rattle.gate_lines.specs.Scripts.{ComesTo}
 

@@ -3,11 +3,11 @@ use Rattle.std.specs.Prelude.{ℕ, List, Option}
 use Rattle.std.specs.Io.KnownBytes.{Appends}
 use Rattle.gate_law.specs.Events.{History}
 use Rattle.gate_law.specs.Holds.{Holds}
-use Rattle.audit_lines.specs.gate_audit.gate_journal.Kept.{Kept, turns}
+use Rattle.gate_audit.specs.gate_journal.Kept.{Kept, turns}
 use Rattle.gate_lines.specs.Scripts.{ComesTo}
 use Rattle.script_steps.specs.Settings.{fixed}
-use Rattle.audit_lines.specs.gate_audit.Pairs.{accepted_pairs}
-use Rattle.audit_lines.specs.Lines.{shown_audit}
+use Rattle.gate_audit.specs.Pairs.{accepted_pairs}
+use Rattle.gate_lines.specs.AuditLines.{shown_audit}
 
 -- what a writer has grew by just the audit of a history of which all that is promised holds
 abbrev pub IsAudited : Option (List ℕ) → Option (List ℕ) → Type 0

@@ -2,10 +2,10 @@
 use Rattle.std.specs.Prelude.{◌≡◌, ℕ, ◌-◌, ◌⊎◌, Bool, true, false, List, [], ◌∷◌, ◌++◌, length, Option, ⊤}
 use Rattle.std.specs.List.{flat_map, FoldsTo}
 use Rattle.std.specs.Io.KnownBytes.{Appends, Keeps}
-use Rattle.batch_lines.specs.declared.flags.Flags.{Flags}
-use Rattle.batch_lines.specs.Lines.{shown_batch}
-use Rattle.audit_lines.specs.gate_audit.gate_journal.Kept.{Kept, nothing_kept}
-use Rattle.audit_lines.specs.text_lines.Unread.{lines_of}
+use Rattle.gate_lines.specs.declared.flags.Flags.{Flags}
+use Rattle.gate_lines.specs.BatchLines.{shown_batch}
+use Rattle.gate_audit.specs.gate_journal.Kept.{Kept, nothing_kept}
+use Rattle.wire_streams.specs.Unread.{lines_of}
 use Rattle.script_steps.specs.Lines.{MayStopAt}
 use Rattle.script_steps.specs.Standing.{IsCold, IsTextStep, IsWarm, RunSoFar, Runner, StepsText}
 use Rattle.gate_lines.specs.declared.stop.Stop.{Stop}

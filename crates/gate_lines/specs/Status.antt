@@ -2,8 +2,8 @@
 use Rattle.std.specs.Prelude.{◌≡◌, ℕ, List}
 use Rattle.script_steps.specs.script_lines.declared.fault.LineFault.{LineFault}
 use Rattle.script_steps.specs.script_lines.declared.fault.LineFault.TheVariants as line_fault
-use Rattle.audit_lines.specs.text_lines.declared.stream_fault.StreamFault.{StreamFault}
-use Rattle.audit_lines.specs.text_lines.declared.stream_fault.StreamFault.TheVariants as stream_fault
+use Rattle.wire_streams.specs.declared.stream_fault.StreamFault.{StreamFault}
+use Rattle.wire_streams.specs.declared.stream_fault.StreamFault.TheVariants as stream_fault
 use Rattle.gate_lines.specs.declared.stop.Stop.{Stop}
 use Rattle.gate_lines.specs.declared.stop.Stop.TheVariants.{NotUnderstood, NoMemory, Stream}
 use Rattle.script_steps.specs.Lines.{MayStopAt}

@@ -3,15 +3,18 @@
 ghost use Rattle.std.specs.Prelude.{◌≡◌, ◌≤◌, IfOk, IfSome};
 ghost use Rattle.std.specs.Io.KnownBytes.{Appends};
 ghost use Rattle.gate_law.specs.Holds.{Holds};
-ghost use Rattle.audit_lines.specs.gate_audit.gate_journal.Kept.{turns};
+ghost use Rattle.gate_audit.specs.gate_journal.Kept.{turns};
 ghost use Rattle.script_steps.specs.Settings.{fixed};
-ghost use Rattle.audit_lines.specs.gate_audit.Pairs.{accepted_pairs};
-ghost use Rattle.audit_lines.specs.Lines.{shown_audit};
+ghost use Rattle.gate_audit.specs.Pairs.{accepted_pairs};
+ghost use Rattle.gate_lines.specs.AuditLines.{shown_audit};
 ghost use Rattle.gate_lines.specs.Audits.{IsAuditOf, IsAudited};
 
 use crate::script::{script_history, tell};
 use crate::stop::Stop;
-use audit_lines::{History, OrderPair, ReadingFault, audit, write_audit};
+use crate::write::write_audit;
+use gate_audit::{OrderPair, audit};
+use gate_journal::History;
+use order_accounts::ReadingFault;
 use script_steps::fixed_settings;
 use std::alloc::Global;
 use std::io::{Read, Write};

@@ -3,11 +3,11 @@
 ghost use Rattle.std.specs.Prelude.{◌≡◌, ◌≤◌, ◌⊎◌, ℕ, IfOk, IfErr, IfSome, OnOk, Err, map};
 ghost use Rattle.std.specs.List.{flat_map, FoldsTo};
 ghost use Rattle.std.specs.Io.KnownBytes.{Keeps};
-ghost use Rattle.batch_lines.specs.Lines.{shown_batch};
+ghost use Rattle.gate_lines.specs.BatchLines.{shown_batch};
 ghost use Rattle.gate_events.specs.Seen.{batch_seen};
 ghost use Rattle.gate_law.specs.Holds.{Holds};
-ghost use Rattle.audit_lines.specs.gate_audit.gate_journal.Kept.{nothing_kept, turns};
-ghost use Rattle.audit_lines.specs.text_lines.Unread.{lines_of};
+ghost use Rattle.gate_audit.specs.gate_journal.Kept.{nothing_kept, turns};
+ghost use Rattle.wire_streams.specs.Unread.{lines_of};
 ghost use Rattle.script_steps.specs.Standing.{IsCold, IsTextStep, IsWarm, StepsText};
 ghost use Rattle.script_steps.specs.Steps.{ScriptGoesOn};
 ghost use Rattle.gate_lines.specs.Scripts.{BeginsScript, ComesTo, Prints, PrintsAll, PrintsLine, StopsScript};
@@ -15,13 +15,16 @@ ghost use Rattle.gate_lines.specs.Scripts.{StopsAmong, WritesNothing};
 ghost use Rattle.script_steps.specs.Settings.{fixed};
 ghost use Rattle.gate_lines.specs.Status.{IsStopAt, stop_status};
 
+use crate::batch_lines::batch_text;
+use crate::flags::Flags;
 use crate::stop::Stop;
-use audit_lines::{History, Lines};
-use batch_lines::{Flags, batch_text};
-use script_steps::{Batch, Runner, warm_runner};
+use gate_events::Batch;
+use gate_journal::History;
+use script_steps::{Runner, warm_runner};
 use std::alloc::{AllocError, Global};
 use std::hash::BuildHasher;
 use std::io::{Read, Write};
+use wire_streams::Lines;
 
 /// The most lines that are counted; no stream has so many within the reads that are made.
 const MOST_LINES: u64 = u64::MAX;

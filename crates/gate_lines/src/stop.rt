@@ -4,11 +4,11 @@ ghost use Rattle.std.specs.Prelude.{◌≡◌};
 ghost use Rattle.gate_lines.specs.declared.stop.Stop.TheVariants.{NoMemory, Stream};
 ghost use Rattle.gate_lines.specs.Status.{stop_status, stop_at, stop_of_stream};
 
-use audit_lines::StreamFault;
-use script_steps::LineFault;
+use script_lines::LineFault;
 use std::alloc::AllocError;
 use std::io;
 use thiserror::Error;
+use wire_streams::StreamFault;
 
 /// Why a run stops before its script's end. It prints as the line that tells so.
 #[derive(Clone, Copy, Debug, PartialEq, Eq, Drop, Error)]

@@ -1,7 +1,7 @@
 //! Runs a script of client messages and market messages: standard input's lines, outputs to standard output.
 #![tactic(auto)]
 
-use script_command::run_program;
+use command_lines::run_program;
 use std::env;
 use std::io::{self, BufWriter, ErrorKind};
 use std::process::ExitCode;

@@ -1,4 +1,4 @@
--- The writer of a line's links by a pen may go to another thread where the pen's stream and gate may.
+-- What writes a line's links through a shared writer may go to another thread where that one's stream and gate may.
 use denote.RattleType.{RattleType}
 use denote.Enum.Declared as E
 use denote.Param.Send.{IsSend, IsSync, enum_send, recorded_send, sendable}
@@ -8,17 +8,18 @@ use Rattle.std.proofs.Crossing.{crosses}
 use Rattle.std.specs.declared.io.Write as Write
 use Rattle.gate_workers.specs.link_io.declared.streams.Prompt as Prompt
 use Rattle.gate_workers.specs.link_io.declared.gate.Gate as Gate
-use Rattle.gate_workers.proofs.Sent.{pen_sync}
+use Rattle.gate_workers.proofs.Sent.{shared_writer_sync}
 use Rattle.gate_serving.specs.contracts.halves.Writes as Writes
 use Rattle.gate_serving.specs.contracts.slot.Slot as Slot
 use Rattle.gate_serving.specs.contracts.slot.State as State
-use Rattle.gate_serving.specs.contracts.pen_worker.PenWorker as PenWorker
+use Rattle.gate_serving.specs.contracts.writer_worker.WriterWorker as WriterWorker
 
 module _ (W G : RattleType) (p : Prompt.Ghosts W.Denot) (w : Write.Ghosts W.Denot) (t : Gate.Ghosts G.Denot)
     (sw : IsSend W) (sg : IsSend G) where
-  pub pen_worker_send : (a : NamedLft) (C : RattleType) → IsSend C → IsSend (PenWorker.the_row a W G C p w t)
-  pen_worker_send a C c = let pen = pen_sync W G sw sg p w t in declared_send (PenWorker.the_type a W G C p w t)
-      (search (pen, sendable, crosses) depth 40, (search (c, sendable) depth 40, tt))
+  pub writer_worker_send : (a : NamedLft) (C : RattleType) → IsSend C → IsSend (WriterWorker.the_row a W G C p w t)
+  writer_worker_send a C c = let shared_writer = shared_writer_sync W G sw sg p w t in
+      declared_send (WriterWorker.the_type a W G C p w t)
+      (search (shared_writer, sendable, crosses) depth 40, (search (c, sendable) depth 40, tt))
 
 -- a line's slot may be shared where the streams and closers that lie in it may go to another thread
 module _ (W K : RattleType) (sw : IsSend W) (sk : IsSend K) where

@@ -14,24 +14,25 @@ use Rattle.gate_serving.specs.declared.line.Worker.{Worker}
 use Rattle.gate_serving.specs.declared.opener.LinkEnd.{LinkEnd}
 use Rattle.gate_serving.specs.Faults.{end_fault, first_fault}
 
--- What a line's reader has put, and the moments that its clock told it, where they are known.
+-- What a line's reader has put, and the moments that its clock reported it, where they are known.
 pub record ReaderLog : Type 0 where
   pub put : List Event
-  pub told : Option (List ℕ)
+  pub reported : Option (List ℕ)
 
-abbrev pub log_of : {G C : Type 0} → (was_put : G → List Event) → (told : C → Option (List ℕ)) → Worker G C → ReaderLog
-log_of was_put told w = record { put = was_put w.gate; told = told w.clock }
+abbrev pub log_of : {G C : Type 0} → (was_put : G → List Event) → (reported : C → Option (List ℕ)) → Worker G C
+    → ReaderLog
+log_of was_put reported w = record { put = was_put w.gate; reported = reported w.clock }
 
 -- What the reader of a client's or port's link of this number has put by its end, where so many bytes of the stream
--- were left: what the bytes of the link say, between its coming and its going, at moments that its clock told.
+-- were left: what the bytes of the link say, between its coming and its going, at moments that its clock reported.
 abbrev pub reads_of : Recipient → ℕ → Result Unit LinkFault → ReaderLog → ReaderLog → Option (List ℕ)
     → Option (List ℕ) → Type 0
 reads_of (recipients.Client n) link end old new left_old left_new =
     ReadsLink MadeOfFrames AreAllOfFrames (λ (f : FramesOfLink). (f.client ≡ n) × (f.link ≡ link)) (ClientUp n link)
-    (ClientGone n link) end old.put new.put old.told new.told left_old left_new
+    (ClientGone n link) end old.put new.put old.reported new.reported left_old left_new
 reads_of (recipients.Port n) link end old new left_old left_new =
     ReadsLink MadeOfPackets AreAllOfPackets (λ (p : PacketsOfLink). (p.port ≡ n) × (p.link ≡ link)) (PortUp n link)
-    (PortGone n link) end old.put new.put old.told new.told left_old left_new
+    (PortGone n link) end old.put new.put old.reported new.reported left_old left_new
 
 -- ---- what became of each try to open a link: its end, or why it couldn't be opened
 

@@ -4,12 +4,13 @@ use Rattle.gate_law.specs.Events.{Event, LinkOut}
 use Rattle.gate_workers.specs.TickersWork.{PutsTicks}
 use Rattle.gate_serving.specs.declared.ticks.Ticks.{Ticks}
 
--- a round of ticks of these clients and ports at each moment that the clock told, and nothing else
+-- a round of ticks of these clients and ports at each moment that the clock reported, and nothing else
 abbrev pub TicksDid : {G C : Type 0} → (gave_back : Event → Type 0) → (G → List Event) → (G → List (List LinkOut))
-    → (told : C → Option (List ℕ)) → (old new : Ticks G C) → Type 0
-TicksDid gave_back was_put was_taken told old new =
+    → (reported : C → Option (List ℕ)) → (old new : Ticks G C) → Type 0
+TicksDid gave_back was_put was_taken reported old new =
     (new.clients ≡ old.clients) × (new.ports ≡ old.ports)
-    × PutsTicks gave_back old.clients old.ports (told old.clock) (told new.clock) (was_put old.gate) (was_put new.gate)
+    × PutsTicks gave_back old.clients old.ports (reported old.clock) (reported new.clock) (was_put old.gate)
+    (was_put new.gate)
     × (was_taken new.gate ≡ was_taken old.gate)
 
 -- a job was done, where there was one

@@ -4,17 +4,18 @@ ghost use Rattle.std.specs.Prelude.{◌≡◌, ◌≤◌, ◌<◌, true, IfNone,
 ghost use Rattle.gate_serving.specs.Halves.{ReadsDid, WritesDid};
 ghost use Rattle.gate_serving.specs.Faults.{first_fault};
 ghost use Rattle.gate_serving.specs.Lines.{LineRead, LineWrittenBy, log_of, reads_of};
-ghost use Rattle.gate_workers.specs.Pens.{HasEnded};
+ghost use Rattle.gate_workers.specs.SharedWriters.{HasEnded};
 ghost use Rattle.gate_workers.specs.WritersWork.{OfAStream};
 
 use crate::job::Job;
 use crate::line::Worker;
 use crate::opener::{Closer, LinkEnd, Opened, Opener};
-use crate::pen_worker::PenWorker;
 use crate::reading::read;
 use crate::slot::{Given, Next, Slot};
+use crate::writer_worker::WriterWorker;
 use gate_events::Recipient;
-use gate_workers::{Clock, Gate, LinkFault, Prompt, WriterEnd};
+use gate_workers::{Clock, WriterEnd};
+use link_io::{Gate, LinkFault, Prompt};
 use std::alloc::Global;
 use std::io::Read;
 use std::sync::Wait;
@@ -51,7 +52,7 @@ where
     W: Drop,
     K: Drop,
 {
-    ghost did = { ReadsDid O.has_ended O.opened (log_of G.was_put C.told) G.was_taken };
+    ghost did = { ReadsDid O.has_ended O.opened (log_of G.was_put C.reported) G.was_taken };
 
     /// Opens and reads the line's links; then tells the writer that no further one comes.
     fn run<R: Wait>(self, rt: &R, alloc: Global, flag: &AtomicBool) -> Self {
@@ -79,7 +80,7 @@ where
     fn read_links<R: Wait>(&mut self, rt: &R, alloc: Global, flag: &AtomicBool) -> bool
         ensures read { LineRead (reads_of self.old.peer) result (O.has_ended self.new.opener)
             (O.opened self.old.opener) (O.opened self.new.opener) self.old.fault self.new.fault
-            (log_of G.was_put C.told self.old.worker) (log_of G.was_put C.told self.new.worker) }
+            (log_of G.was_put C.reported self.old.worker) (log_of G.was_put C.reported self.new.worker) }
         ensures none_taken { G.was_taken self.new.worker.gate ≡ G.was_taken self.old.worker.gate }
         ensures same { (self.new.peer ≡ self.old.peer) × (self.new.steps ≡ self.old.steps) }
     {
@@ -119,10 +120,10 @@ where
         opened: Opened<O::Reader, W, K>,
     ) -> Option<LinkEnd>
         ensures some { IfSome result (λ end. OfAStream (reads_of self.old.peer link end.reader
-            (log_of G.was_put C.told self.old.worker) (log_of G.was_put C.told self.new.worker))) }
+            (log_of G.was_put C.reported self.old.worker) (log_of G.was_put C.reported self.new.worker))) }
         ensures number { IfSome result (λ end. end.link ≡ link) }
-        ensures none { IfNone result (log_of G.was_put C.told self.new.worker
-            ≡ log_of G.was_put C.told self.old.worker) }
+        ensures none { IfNone result (log_of G.was_put C.reported self.new.worker
+            ≡ log_of G.was_put C.reported self.old.worker) }
         ensures none_taken { G.was_taken self.new.worker.gate ≡ G.was_taken self.old.worker.gate }
         ensures same { (self.new.peer ≡ self.old.peer) × (self.new.steps ≡ self.old.steps)
             × (self.new.opener ≡ self.old.opener) × (self.new.fault ≡ self.old.fault) }
@@ -153,7 +154,7 @@ where
     }
 }
 
-impl<'a, 'p, W, H, D, K> Job for Writes<'a, PenWorker<'p, W, H, D>, W, K>
+impl<'a, 'p, W, H, D, K> Job for Writes<'a, WriterWorker<'p, W, H, D>, W, K>
 where
     W: Prompt + Drop,
     H: Gate + Drop,
@@ -170,7 +171,7 @@ where
     }
 }
 
-impl<'a, 'p, W, H, D, K> Writes<'a, PenWorker<'p, W, H, D>, W, K>
+impl<'a, 'p, W, H, D, K> Writes<'a, WriterWorker<'p, W, H, D>, W, K>
 where
     W: Prompt + Drop,
     H: Gate + Drop,

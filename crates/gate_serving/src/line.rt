@@ -1,7 +1,7 @@
 //! A line: one client or port with all that serves its links.
 
 use gate_events::Recipient;
-use gate_workers::LinkFault;
+use link_io::LinkFault;
 
 /// What a reader works with: its handle to the core and its clock.
 #[derive(Drop)]

@@ -4,7 +4,8 @@ ghost use Rattle.std.specs.Prelude.{◌≡◌, Ok};
 ghost use Rattle.gate_serving.specs.Faults.{end_fault};
 ghost use Rattle.gate_workers.specs.declared.writer.WriterEnd.TheVariants.{Stopped};
 
-use gate_workers::{LinkFault, WriterEnd};
+use gate_workers::WriterEnd;
+use link_io::LinkFault;
 use std::sync::atomic::AtomicBool;
 
 /// Opens the links of a line, one after the other. Contracts see how many links it has opened, and whether it has said

@@ -4,7 +4,8 @@ ghost use Rattle.std.specs.Prelude.{◌≡◌, ◌≤◌};
 ghost use Rattle.gate_serving.specs.Lines.{reads_of};
 
 use gate_events::Recipient;
-use gate_workers::{Clock, Gate, LinkFault, client_reader, port_reader};
+use gate_workers::{Clock, client_reader, port_reader};
+use link_io::{Gate, LinkFault};
 use std::alloc::Global;
 use std::io::Read;
 use std::sync::Wait;
@@ -22,8 +23,8 @@ pub(crate) fn read<R: Wait, S: Read, G: Gate, C: Clock>(
 ) -> Result<(), LinkFault>
     requires from_one { 1 ≤ steps }
     ensures has_read { reads_of peer link result
-        (record { put = G.was_put gate.old; told = C.told clock.old })
-        (record { put = G.was_put gate.new; told = C.told clock.new })
+        (record { put = G.was_put gate.old; reported = C.reported clock.old })
+        (record { put = G.was_put gate.new; reported = C.reported clock.new })
         (S.remaining stream.old) (S.remaining stream.new) }
     ensures none_taken { G.was_taken gate.new ≡ G.was_taken gate.old }
 {

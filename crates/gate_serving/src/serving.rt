@@ -2,7 +2,7 @@
 
 ghost use Rattle.std.specs.Prelude.{◌≡◌, true, false, IfOk, IfErr};
 ghost use Rattle.std.specs.List.{AllZip};
-ghost use Rattle.gate_workers.specs.Pens.{HasEnded};
+ghost use Rattle.gate_workers.specs.SharedWriters.{HasEnded};
 ghost use Rattle.gate_serving.specs.Lines.{LineServed, log_of};
 ghost use Rattle.gate_serving.specs.Passed.{TicksDid, WasDone};
 ghost use Rattle.gate_serving.specs.declared.serving.ServeFault.TheVariants.{NoMemory, NoThread};
@@ -10,10 +10,11 @@ ghost use Rattle.gate_serving.specs.declared.serving.ServeFault.TheVariants.{NoM
 use crate::job::run_all;
 use crate::line::{Line, Worker};
 use crate::opener::{Closer, Opener};
-use crate::pen_worker::PenWorker;
 use crate::splitting::{joined, slots_of, split};
 use crate::ticks::Ticks;
-use gate_workers::{Clock, Gate, Prompt};
+use crate::writer_worker::WriterWorker;
+use gate_workers::Clock;
+use link_io::{Gate, Prompt};
 use std::alloc::Global;
 use std::io::Read;
 use std::sync::Wait;
@@ -29,8 +30,9 @@ pub enum ServeFault {
     NoThread,
 }
 
-/// The lines of clients and ports: openers, gates and clocks of readers, pens and clocks of writers.
-type Lines<'p, O, G, C, W, H, D> = Vec<Line<O, Worker<G, C>, PenWorker<'p, W, H, D>>>;
+/// The lines of clients and ports: openers, gates and clocks of readers, shared writers and the clocks of those who
+/// write.
+type Lines<'p, O, G, C, W, H, D> = Vec<Line<O, Worker<G, C>, WriterWorker<'p, W, H, D>>>;
 
 /// Serves all lines at once, each in two threads of its own, and hands them back in their order once all have ended.
 /// `Ok` if the links of each were read to the last that its opener had. Meanwhile the calling thread makes time pass,
@@ -62,14 +64,15 @@ where
     H: Gate + Send + Drop,
     D: Clock + Send + Drop,
     ensures served { IfOk result (λ back. AllZip
-        (LineServed O.has_ended O.opened (log_of G.was_put C.told) G.was_taken
+        (LineServed O.has_ended O.opened (log_of G.was_put C.reported) G.was_taken
         (HasEnded O.Writer.contents) true)
         lines.entry.items back.0.items) }
-    ensures ticked { IfOk result (λ back. WasDone (TicksDid G.gave_back G.was_put G.was_taken C.told) ticks.entry back.1) }
+    ensures ticked { IfOk result (λ back. WasDone
+        (TicksDid G.gave_back G.was_put G.was_taken C.reported) ticks.entry back.1) }
     ensures no_thread { IfErr result (λ e. e.0 ≡ NoThread → AllZip
-        (LineServed O.has_ended O.opened (log_of G.was_put C.told) G.was_taken
+        (LineServed O.has_ended O.opened (log_of G.was_put C.reported) G.was_taken
         (HasEnded O.Writer.contents) false)
-        lines.entry.items e.1.items × WasDone (TicksDid G.gave_back G.was_put G.was_taken C.told) ticks.entry e.2) }
+        lines.entry.items e.1.items × WasDone (TicksDid G.gave_back G.was_put G.was_taken C.reported) ticks.entry e.2) }
     ensures no_memory { IfErr result (λ e. e.0 ≡ NoMemory
         → (e.1.items ≡ lines.entry.items) × (e.2 ≡ ticks.entry)) }
 {

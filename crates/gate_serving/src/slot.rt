@@ -1,6 +1,7 @@
 //! The slot by which a line's reader hands its writer the next link.
 
-use gate_workers::{LinkFault, WriterEnd};
+use gate_workers::WriterEnd;
+use link_io::LinkFault;
 use std::mem;
 use std::sync::atomic::{AtomicBool, Ordering};
 use std::sync::{Mutex, Wait};

@@ -3,7 +3,8 @@
 ghost use Rattle.gate_serving.specs.Passed.{TicksDid};
 
 use crate::job::Job;
-use gate_workers::{Clock, Gate, ticker};
+use gate_workers::{Clock, ticker};
+use link_io::Gate;
 use std::alloc::Global;
 use std::sync::Wait;
 use std::sync::atomic::AtomicBool;
@@ -19,7 +20,7 @@ pub struct Ticks<'a, G, C> {
 }
 
 impl<'a, G: Gate, C: Clock> Job for Ticks<'a, G, C> {
-    ghost did = { TicksDid G.gave_back G.was_put G.was_taken C.told };
+    ghost did = { TicksDid G.gave_back G.was_put G.was_taken C.reported };
 
     /// Makes time pass until its own flag is set.
     fn run<R: Wait>(self, rt: &R, alloc: Global, _flag: &AtomicBool) -> Self {

@@ -6,9 +6,9 @@ ghost use Rattle.gate_law.specs.Settings.{Settings, client_name};
 ghost use Rattle.gate_sessions.specs.Leaving.{ClientLeaves, expected_in, is_client_due, logon_fault_in};
 ghost use Rattle.gate_sessions.specs.Lines.{client_now, client_settled};
 
+use fix_fields::{Fields, Text};
 use fix_session::{IssuedTurn, LogonFault, Session, SessionTurn};
 use fix_types::AppBody;
-use gate_law::{Fields, Text};
 use std::alloc::{AllocError, Global};
 
 /// A client's current link, if it has one, and its session over all its links.

@@ -15,9 +15,9 @@ ghost use Rattle.gate_sessions.specs.Lines.{ClientsStayLinked, ClientsStaySettle
 ghost use Rattle.gate_sessions.specs.Lines.{client_settled};
 
 use crate::client_line::ClientLine;
+use fix_fields::Fields;
 use fix_session::{IssuedTurn, SessionTurn};
 use fix_types::AppBody;
-use gate_law::Fields;
 use std::alloc::{AllocError, Global};
 
 /// The link and session of each client, by its index: number i + 1 stands at index i.

@@ -18,9 +18,8 @@ ghost use Rattle.gate_sessions.specs.Links.{outs_told_on};
 use crate::client_lines::Clients;
 use fix_session::IssuedTurn;
 use fix_types::AppBody;
-use gate_events::LinkOut;
+use gate_events::{LinkOut, ShortList};
 use session_law::IssuedReport;
-use short_list::ShortList;
 use std::alloc::{AllocError, Global};
 
 /// The result of issuing bodies to one client.

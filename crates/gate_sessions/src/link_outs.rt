@@ -7,9 +7,8 @@ ghost use Rattle.gate_events.specs.Seen.{link_out_seen};
 ghost use Rattle.gate_sessions.specs.Links.{outs_told_on};
 
 use fix_session::SessionOut;
-use gate_events::LinkOut;
-use gate_law::PortOut;
-use short_list::ShortList;
+use gate_events::{LinkOut, ShortList};
+use soup_session::PortOut;
 use std::alloc::{AllocError, Global};
 
 /// The outputs of a client's session to its link, if there is one, and then these. Takes no memory if the session has

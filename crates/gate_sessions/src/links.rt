@@ -12,9 +12,8 @@ use crate::client_lines::Clients;
 use crate::link_outs::{port_told_first, told_first};
 use crate::port_lines::Ports;
 use fix_session::{SessionOut, SessionTurn};
-use gate_events::{LinkOut, closes_link};
-use gate_law::PortOut;
-use short_list::ShortList;
+use gate_events::{LinkOut, ShortList, closes_link};
+use soup_session::PortOut;
 use std::alloc::{AllocError, Global};
 
 /// The output of a client's session in one call, and then other output to the client, to its current link; if that

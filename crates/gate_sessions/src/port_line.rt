@@ -8,8 +8,8 @@ ghost use Rattle.gate_law.specs.Sessions.{port_state};
 ghost use Rattle.gate_sessions.specs.Leaving.{PortLeaves, is_port_due};
 ghost use Rattle.gate_sessions.specs.Lines.{port_now, port_settled};
 
-use gate_law::{PortFault, PortSession, PortState, PortTurn};
 use soup_packets::{Packet, Payload};
+use soup_session::{PortFault, PortSession, PortState, PortTurn};
 use std::alloc::{AllocError, Global};
 
 /// A port's current link, if it has one, and its session over all its links.

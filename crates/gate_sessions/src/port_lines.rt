@@ -8,8 +8,9 @@ ghost use Rattle.gate_sessions.specs.Lines.{PortsStaySettled, PortsStayWithin, N
 ghost use Rattle.gate_sessions.specs.Lines.{port_settled};
 
 use crate::port_line::PortLine;
-use gate_law::{Inbound, PortFault, PortTurn};
+use ouch_codec::Inbound;
 use soup_packets::{Packet, Payload};
+use soup_session::{PortFault, PortTurn};
 use std::alloc::{AllocError, Global};
 
 /// The link and session of each port, by its index: number i + 1 stands at index i.

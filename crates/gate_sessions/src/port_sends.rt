@@ -11,9 +11,8 @@ ghost use Rattle.gate_events.specs.Seen.{link_out_seen};
 
 use crate::link_outs::tell_port;
 use crate::port_lines::Ports;
-use gate_events::LinkOut;
-use gate_law::Inbound;
-use short_list::ShortList;
+use gate_events::{LinkOut, ShortList};
+use ouch_codec::Inbound;
 use std::alloc::{AllocError, Global};
 
 /// Sends messages, in their order, each once, while the port is up, and gives the output to the current link.

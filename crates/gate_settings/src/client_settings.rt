@@ -1,6 +1,6 @@
 //! Who a client is, and what its orders are entered with.
 
-use gate_law::Text;
+use fix_fields::Text;
 use std::marker::Model;
 use to_market::ClientTerms;
 

@@ -16,4 +16,3 @@ mod settings;
 pub use client_settings::ClientSettings;
 pub use port_settings::PortSettings;
 pub use settings::Settings;
-pub use to_market::ClientTerms;

@@ -8,7 +8,7 @@ ghost use Rattle.gate_settings.specs.Seen.{settings_of};
 
 use crate::client_settings::ClientSettings;
 use crate::port_settings::PortSettings;
-use to_market::are_visible;
+use wire_law::are_visible;
 
 /// Whether so many are from the least to the most.
 pub fn is_between(least: usize, most: usize, count: usize) -> bool

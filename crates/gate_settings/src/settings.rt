@@ -10,7 +10,7 @@ ghost use Rattle.gate_settings.specs.Seen.{settings_of};
 use crate::client_settings::ClientSettings;
 use crate::limits::{are_clients, are_ports, is_between, is_each_own, is_name};
 use crate::port_settings::PortSettings;
-use gate_law::Text;
+use fix_fields::Text;
 use std::marker::Model;
 
 /// The gateway's name, its ports and its clients, each numbered from 1 in this order. Contracts see the law's

@@ -1,4 +1,4 @@
--- What a pen keeps.
+-- What a shared writer keeps.
 use Rattle.std.proofs.Common.{◌≡◌, false, ℕ, ◌+◌, ◌++◌, List, [], ◌∷◌, length, Option, Some, None, Result, refl, sym}
 use Rattle.std.proofs.Common.{◌∙◌, ap, subst, append_assoc, append-nil, arith}
 use Rattle.std.specs.Prelude.{IfSome, IfNone}
@@ -12,8 +12,9 @@ use Rattle.gate_workers.specs.declared.link.Link.{Link}
 use Rattle.gate_workers.specs.declared.stepped.Stepped.{Stepped}
 use Rattle.gate_workers.specs.declared.stepped.Stepped.TheVariants.{Taken, Nothing, Over, NoLink}
 use Rattle.std.proofs.Math.Logic.{∥∥₁_map}
-use Rattle.gate_workers.specs.Pens.{Ends, IsAllWritten, IsWritten, LinksOver, NothingHeld, PenKept, SameLink, StepsPen}
-use Rattle.gate_workers.specs.Pens.{WasWritten, WritesSoFar}
+use Rattle.gate_workers.specs.SharedWriters.{Ends, IsAllWritten, IsWritten, LinksOver, NothingHeld, WriterKept}
+use Rattle.gate_workers.specs.SharedWriters.{SameLink, StepsWriter}
+use Rattle.gate_workers.specs.SharedWriters.{WasWritten, WritesSoFar}
 use Rattle.gate_workers.proofs.SoFar.{so_far_none}
 
 -- before the first link
@@ -52,7 +53,7 @@ over_let_go n x y outs some e (end ∷ ends, count, (between, over, before, link
 
 module _ {W G : Type 0} (contents : W → Option (List ℕ)) (was_taken : G → List (List LinkOut)) where
   -- nothing of a link is held
-  pub all_written : (links : ℕ) (o : Option (Link W G)) (gate : G) → ∥ PenKept contents was_taken links o gate ∥₁
+  pub all_written : (links : ℕ) (o : Option (Link W G)) (gate : G) → ∥ WriterKept contents was_taken links o gate ∥₁
       → NothingHeld o → ∥ IsAllWritten contents was_taken ∥₁
   all_written links None gate kept nothing = absurd nothing
   all_written links (Some link) gate kept nothing = ∥∥₁_map kept (λ k. (links, link, gate, k, nothing))
@@ -62,7 +63,7 @@ module _ {W G : Type 0} (contents : W → Option (List ℕ)) (was_taken : G → 
       → contents link.stream ≡ contents link.stream_then.value
       → unwritten link.writer ≡ [] → link.writer.link ≡ m → link.writer.is_closing ≡ false
       → link.writer.limit.over ≡ None
-      → PenKept contents was_taken n None gate → PenKept contents was_taken m (Some link) gate
+      → WriterKept contents was_taken n None gate → WriterKept contents was_taken m (Some link) gate
   kept_opened n m gate link is then same empty of still goes over = (
     n,
     is,
@@ -81,7 +82,7 @@ module _ {W G : Type 0} (contents : W → Option (List ℕ)) (was_taken : G → 
       → ((x : List (List LinkOut)) (l : Option (List ℕ))
       → WritesSoFar n old.writer x (was_taken gate) l (contents old.stream)
       → WritesSoFar n new.writer x (was_taken gate') l (contents new.stream))
-      → PenKept contents was_taken n (Some old) gate → PenKept contents was_taken n (Some new) gate'
+      → WriterKept contents was_taken n (Some old) gate → WriterKept contents was_taken n (Some new) gate'
   kept_on n old new gate gate' same_gate same_stream goes (over, is, before, so_far) = (
     over,
     is,
@@ -98,7 +99,7 @@ module _ {W G : Type 0} (contents : W → Option (List ℕ)) (was_taken : G → 
       → ((x : List (List LinkOut)) (l : Option (List ℕ))
       → WritesSoFar n old.writer x (was_taken gate) l (contents old.stream)
       → WritesLink n end x (was_taken gate') l (contents stream))
-      → PenKept contents was_taken n (Some old) gate → PenKept contents was_taken n None gate'
+      → WriterKept contents was_taken n (Some old) gate → WriterKept contents was_taken n None gate'
   kept_over n old stream end gate gate' ends (over, is, before, so_far) =
       over_more n over end (was_taken old.gate_then.value) (was_taken gate') (contents old.stream_then.value)
       (contents stream) is before
@@ -109,7 +110,7 @@ module _ {W G : Type 0} (contents : W → Option (List ℕ)) (was_taken : G → 
       → ((x : List (List LinkOut)) (l : Option (List ℕ))
       → WritesSoFar n old.writer x (was_taken gate) l (contents old.stream)
       → WritesLink n end x (was_taken gate') l (contents stream))
-      → PenKept contents was_taken n (Some old) gate
+      → WriterKept contents was_taken n (Some old) gate
       → WritesLink n end (was_taken old.gate_then.value) (was_taken gate') (contents old.stream_then.value)
       (contents stream)
   kept_written n old stream end gate gate' ends (over, is, before, so_far) =
@@ -117,7 +118,7 @@ module _ {W G : Type 0} (contents : W → Option (List ℕ)) (was_taken : G → 
 
   -- nothing was taken
   pub kept_same : (n : ℕ) (link : Option (Link W G)) (gate gate' : G) → was_taken gate' ≡ was_taken gate
-      → PenKept contents was_taken n link gate → PenKept contents was_taken n link gate'
+      → WriterKept contents was_taken n link gate → WriterKept contents was_taken n link gate'
   kept_same n None gate gate' same over = subst (LinksOver n) (sym same) over
   kept_same n (Some link) gate gate' same (over, is, before, so_far) = (
     over,
@@ -130,7 +131,7 @@ module _ {W G : Type 0} (contents : W → Option (List ℕ)) (was_taken : G → 
   -- what lay there was let go
   pub kept_let_go : {A : Type 0} (n : ℕ) (gate gate' : G) (seen : A → List LinkOut) (r : Option A) → (n ≡ 0 → ⊥)
       → IfSome r (λ a. was_taken gate' ≡ was_taken gate ++ seen a ∷ []) → IfNone r (was_taken gate' ≡ was_taken gate)
-      → PenKept contents was_taken n None gate → PenKept contents was_taken n None gate'
+      → WriterKept contents was_taken n None gate → WriterKept contents was_taken n None gate'
   kept_let_go n gate gate' seen (Some outs) some taken none over =
       over_let_go n (was_taken gate) (was_taken gate') (seen outs) some taken over
   kept_let_go n gate gate' seen None some taken none over = kept_same n None gate gate' none over
@@ -149,7 +150,7 @@ was_written contents was_taken n end stream (Some old) new gate (gone, written) 
 
 pub is_written : {W G : Type 0} (contents : W → Option (List ℕ)) (was_taken : G → List (List LinkOut)) (r : Stepped W)
     (n : ℕ) (old new : Option (Link W G)) (gate : G)
-    → StepsPen contents was_taken r n old new gate → IsWritten contents r
+    → StepsWriter contents was_taken r n old new gate → IsWritten contents r
 is_written contents was_taken Taken n old new gate h = tt
 is_written contents was_taken Nothing n old new gate h = tt
 is_written contents was_taken NoLink n old new gate h = tt

@@ -16,7 +16,7 @@ use Rattle.link_io.specs.Reading.{Reading, Gave, Reads}
 use Rattle.link_io.proofs.Going.{goes_none, goes_again}
 use Rattle.gate_workers.specs.Moments.{Tells}
 use Rattle.gate_workers.specs.ReadersWork.{EndsWith, HasRead, HasReadAll, ReadsLink}
-use Rattle.gate_workers.proofs.Telling.{comes_later, comes_more, comes_none, put_as_told}
+use Rattle.gate_workers.proofs.Telling.{comes_later, comes_more, comes_none, put_as_reported}
 
 -- a link that goes on is refused a step only where its steps are used up
 pub used_up : (limit : Limit) (f : LinkFault) → limit.over ≡ None → refusal limit ≡ Some f → f ≡ StepLimit
@@ -67,7 +67,8 @@ limit-goes_on limit new r ends goes e = ap (λ (l : Limit). l.over) e ∙ rw (go
 
 -- ---- a reader
 
-module _ {D : Type 0} (made : D → List ℕ → List law.Event → Type 0) (are_all : D → Bool → List ℕ → List law.Event → Type 0) where
+module _ {D : Type 0} (made : D → List ℕ → List law.Event → Type 0)
+    (are_all : D → Bool → List ℕ → List law.Event → Type 0) where
   pub read_none : (a : Reading D) (x : List law.Event) (t l : Option (List ℕ)) → HasRead made a a x x t t l l
   read_none a x t l = record {
     read = [];
@@ -76,7 +77,7 @@ module _ {D : Type 0} (made : D → List ℕ → List law.Event → Type 0) (are
     consumes = Consumes-nil l;
     puts = sym (append-nil x);
     tells = Appends-nil t;
-    as_told = comes_none a.offered;
+    as_reported = comes_none a.offered;
     goes = goes_none made are_all 0 a;
   }
 
@@ -91,7 +92,7 @@ module _ {D : Type 0} (made : D → List ℕ → List law.Event → Type 0) (are
     consumes = Consumes-trans l m n h.read s.read h.consumes s.consumes;
     puts = s.puts ∙ (ap (λ (w : List law.Event). w ++ s.put) h.puts ∙ append_assoc x h.put s.put);
     tells = Appends-trans t u v h.moments (at ∷ []) h.tells now;
-    as_told = comes_more h.moments at a.offered b.offered c.offered h.put s.put s.first.0 h.as_told s.first.1
+    as_reported = comes_more h.moments at a.offered b.offered c.offered h.put s.put s.first.0 h.as_reported s.first.1
         s.first.2;
     goes = goes_again made are_all at a b c h.read s.read h.put s.put h.goes s.goes;
   }
@@ -106,7 +107,7 @@ module _ {D : Type 0} (made : D → List ℕ → List law.Event → Type 0) (are
     consumes = subst (Consumes l n) (append-nil h.read) (Consumes-trans l m n h.read [] h.consumes none);
     puts = h.puts;
     tells = h.tells;
-    as_told = h.as_told;
+    as_reported = h.as_reported;
     goes = h.goes;
   }
 
@@ -138,7 +139,7 @@ module _ {D : Type 0} (made : D → List ℕ → List law.Event → Type 0) (are
       puts = s.puts ∙ (ap (λ (w : List law.Event). w ++ s.put) h.puts ∙ append_assoc x h.put s.put);
       tells = Appends-trans t u v h.moments (at ∷ []) h.tells now;
       reading = c;
-      as_told = comes_more h.moments at a.offered b.offered c.offered h.put s.put s.first.0 h.as_told s.first.1
+      as_reported = comes_more h.moments at a.offered b.offered c.offered h.put s.put s.first.0 h.as_reported s.first.1
           s.first.2;
       is_of = own;
       goes = goes_again made are_all at a b c h.read s.read h.put s.put h.goes s.goes;
@@ -189,7 +190,7 @@ module _ {D : Type 0} (made : D → List ℕ → List law.Event → Type 0) (are
       puts = h.puts;
       tells = Appends-trans t u v h.moments (at ∷ []) h.tells now;
       reading = b;
-      as_told = comes_later h.moments (at ∷ []) a.offered b.offered h.put h.as_told;
+      as_reported = comes_later h.moments (at ∷ []) a.offered b.offered h.put h.as_reported;
       is_of = own;
       goes = h.goes;
       ends = λ before events gave. tt;
@@ -229,7 +230,7 @@ module _ {D : Type 0} (made : D → List ℕ → List law.Event → Type 0) (are
     puts = h.puts;
     tells = h.tells;
     reading = h.reading;
-    as_told = h.as_told;
+    as_reported = h.as_reported;
     is_of = other h.reading.decoder h.is_of;
     goes = h.goes;
     ends = h.ends;
@@ -255,7 +256,7 @@ module _ {D : Type 0} (made : D → List ℕ → List law.Event → Type 0) (are
             (Appends-trans s t p (began ∷ []) (h.moments ++ ended ∷ []) first
             (Appends-trans t v p h.moments (ended ∷ [])
             (subst (λ (o : Option (List ℕ)). Tells o v h.moments) silent h.tells) last));
-        as_told = put_as_told h.moments a.offered h.reading.offered h.put none h.as_told;
+        as_reported = put_as_reported h.moments a.offered h.reading.offered h.put none h.as_reported;
         consumes = h.consumes;
         reading = h.reading;
         is_of = h.is_of;

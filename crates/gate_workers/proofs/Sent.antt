@@ -1,4 +1,4 @@
--- A pen may be shared where its stream and its gate may go to another thread.
+-- Threads may share a writer where its stream and its gate may go to another thread.
 use denote.RattleType.{RattleType}
 use denote.Param.Send.{IsSend, IsSync, sendable}
 use denote.Param.SendFields.{declared_send, declared_sync}
@@ -9,7 +9,7 @@ use Rattle.link_io.specs.declared.gate.Gate as Gate
 use Rattle.std.specs.declared.io.Write as Write
 use Rattle.gate_workers.specs.contracts.link.Link as Link
 use Rattle.gate_workers.specs.contracts.work.Work as Work
-use Rattle.gate_workers.specs.contracts.pen.Pen as Pen
+use Rattle.gate_workers.specs.contracts.shared_writer.SharedWriter as SharedWriter
 
 writer_send : IsSend BatchWriter.the_row
 writer_send = search (sendable, crosses) depth 100 fits 500000
@@ -37,5 +37,5 @@ module _ (W G : RattleType) (sw : IsSend W) (sg : IsSend G) where
       ),
     )
 
-    pub pen_sync : IsSync (Pen.the_row W G p w g)
-    pen_sync = search (work_send, sendable, crosses) depth 100 fits 500000
+    pub shared_writer_sync : IsSync (SharedWriter.the_row W G p w g)
+    shared_writer_sync = search (work_send, sendable, crosses) depth 100 fits 500000

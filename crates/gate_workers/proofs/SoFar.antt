@@ -18,7 +18,7 @@ use Rattle.gate_workers.specs.declared.writer.WriterEnd.{WriterEnd}
 use Rattle.gate_workers.specs.declared.writer.WriterEnd.TheVariants.{Closed, Stopped}
 use Rattle.gate_workers.specs.WritersWork.{TellsEnd, WritesLink}
 use Rattle.gate_workers.specs.Steps.{step_end}
-use Rattle.gate_workers.specs.Pens.{WritesSoFar}
+use Rattle.gate_workers.specs.SharedWriters.{WritesSoFar}
 use Rattle.gate_workers.proofs.Run.{limit-goes_on, used_up}
 
 -- nothing yet
@@ -94,7 +94,8 @@ still_open w stop e = by_closed w.closed refl
     by_closed true q = absurd (let wrong = rw q at e in cc)
     by_closed false q = q
 
-module _ (n : ℕ) (a b : WriterState) (x y z : List (List LinkOut)) (l m k : Option (List ℕ)) (h : WritesSoFar n a x y l m) where
+module _ (n : ℕ) (a b : WriterState) (x y z : List (List LinkOut)) (l m k : Option (List ℕ))
+    (h : WritesSoFar n a x y l m) where
   module _ (r : Result Wrote LinkFault) (s : Writes r a b y z m k) where
     whole : lists_bytes n (h.taken ++ s.taken) ≡ (h.written ++ s.written) ++ s.rest
     whole = both-whole n h.taken s.taken h.written s.written (unwritten a) s.rest h.whole
@@ -149,8 +150,8 @@ module _ (n : ℕ) (a b : WriterState) (x y z : List (List LinkOut)) (l m k : Op
       → step_end r stop ≡ Some end → Writes r a b y z m k → WritesLink n end x z l k
   wrote_over (Ok w) stop end e s = by_closed w.closed refl
     where
-      all-told : (is : WriterEnd) → TellsEnd (Ok is) w.closed [] → WritesLink n (Ok is) x z l k
-      all-told is tells =
+      all-written : (is : WriterEnd) → TellsEnd (Ok is) w.closed [] → WritesLink n (Ok is) x z l k
+      all-written is tells =
           let (none, bytes, taken, closed, empty, untold, unclosed) = s.tells in
           over_with (Ok w) s (Ok is) (subst (λ (v : List ℕ). TellsEnd (Ok is) (do_close n (h.taken ++ s.taken)) v)
           (sym none)
@@ -159,13 +160,13 @@ module _ (n : ℕ) (a b : WriterState) (x y z : List (List LinkOut)) (l m k : Op
       by_stopped : (v : Bool) → (stop && not w.taken) ≡ v → w.closed ≡ false → WritesLink n end x z l k
       by_stopped true q p =
           let is : Ok Stopped ≡ end = (let same = rw (p, q) at e in cc) in
-          subst (λ (v : Result WriterEnd LinkFault). WritesLink n v x z l k) is (all-told Stopped (p, refl))
+          subst (λ (v : Result WriterEnd LinkFault). WritesLink n v x z l k) is (all-written Stopped (p, refl))
       by_stopped false q p = absurd (let wrong = rw (p, q) at e in cc)
 
       by_closed : (v : Bool) → w.closed ≡ v → WritesLink n end x z l k
       by_closed true p =
           let is : Ok Closed ≡ end = (let same = rw p at e in cc) in
-          subst (λ (v : Result WriterEnd LinkFault). WritesLink n v x z l k) is (all-told Closed (p, refl))
+          subst (λ (v : Result WriterEnd LinkFault). WritesLink n v x z l k) is (all-written Closed (p, refl))
       by_closed false p = by_stopped (stop && not w.taken) refl p
   wrote_over (Err WriteFailed) stop end e s =
       let is : Err WriteFailed ≡ end = cc in
@@ -207,7 +208,7 @@ module _ (n : ℕ) (a b : WriterState) (x y z : List (List LinkOut)) (l m k : Op
         by_refusal (Some f) q =
             let same = refused f q in
             let is : r ≡ Err StepLimit = same.0 ∙ ap (λ (v : LinkFault). Err v) (used_up a.limit f h.goes_on q) in
-            let ends : Err StepLimit ≡ end = (let told = rw is at e in cc) in
+            let ends : Err StepLimit ≡ end = (let reported = rw is at e in cc) in
             subst (λ (v : Result WriterEnd LinkFault). WritesLink n v x z l k) ends
             (subst (λ (v : Option (List ℕ)). WritesLink n (Err StepLimit) x z l v) (sym same.1)
             (subst (λ (v : List (List LinkOut)). WritesLink n (Err StepLimit) x v l m) (sym same.2) limited))

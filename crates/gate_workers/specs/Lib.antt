@@ -2,7 +2,7 @@ pub mod Moments
 pub mod ReadersWork
 pub mod WritersWork
 pub mod TickersWork
-pub mod Pens
+pub mod SharedWriters
 pub mod Steps
 pub use Rattle.link_io.specs.Reading
 pub use Rattle.link_io.specs.Decoding

@@ -30,9 +30,10 @@ abbrev pub PutsBehind : (gave_back : Event → Type 0) → (events put_old put_n
 PutsBehind gave_back events put_old put_new =
     (put : List Event) × (put_new ≡ put_old ++ put) × PutsUnless gave_back events put
 
--- a round of ticks was put for each moment that the clock told, in order, and nothing else
-abbrev pub PutsTicks : (gave_back : Event → Type 0) → (clients ports : ℕ) → (told_old told_new : Option (List ℕ))
+-- a round of ticks was put for each moment that the clock reported, in order, and nothing else
+abbrev pub PutsTicks : (gave_back : Event → Type 0) → (clients ports : ℕ)
+    → (reported_old reported_new : Option (List ℕ))
     → (put_old put_new : List Event) → Type 0
-PutsTicks gave_back clients ports told_old told_new put_old put_new =
-    (moments : List ℕ) × Tells told_old told_new moments
+PutsTicks gave_back clients ports reported_old reported_new put_old put_new =
+    (moments : List ℕ) × Tells reported_old reported_new moments
     × PutsBehind gave_back (rounds clients ports moments) put_old put_new

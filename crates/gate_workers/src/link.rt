@@ -1,4 +1,4 @@
-//! The link that a pen writes.
+//! The link that a shared writer writes.
 
 use link_io::BatchWriter;
 use std::snapshot::Snapshot;

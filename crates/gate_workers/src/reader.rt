@@ -11,10 +11,8 @@ ghost use Rattle.gate_workers.specs.ReadersWork.{HasReadAll, ReadsLink};
 use crate::clock::Clock;
 use crate::ending::ends_link;
 use crate::skips::Skips;
-use link_io::{
-    ClientNumber, ClientReader, Decoder, Event, Gate, LinkFault, PortNumber, PortReader, Progress,
-    Reader,
-};
+use gate_events::{ClientNumber, Event, PortNumber};
+use link_io::{ClientReader, Decoder, Gate, LinkFault, PortReader, Progress, Reader};
 use std::alloc::Global;
 use std::io::Read;
 use std::sync::Wait;
@@ -39,7 +37,7 @@ pub fn client_reader<R: Wait, S: Read, G: Gate, C: Clock>(
     ensures reads { ReadsLink MadeOfFrames AreAllOfFrames
         (λ (f : FramesOfLink). (f.client ≡ client) × (f.link ≡ link))
         (law.ClientUp client link) (law.ClientGone client link) result
-        (G.was_put gate.old) (G.was_put gate.new) (C.told clock.old) (C.told clock.new)
+        (G.was_put gate.old) (G.was_put gate.new) (C.reported clock.old) (C.reported clock.new)
         (S.remaining stream.old) (S.remaining stream.new) }
     ensures none_taken { G.was_taken gate.new ≡ G.was_taken gate.old }
 {
@@ -73,7 +71,7 @@ pub fn port_reader<R: Wait, S: Read, G: Gate, C: Clock>(
     ensures reads { ReadsLink MadeOfPackets AreAllOfPackets
         (λ (p : PacketsOfLink). (p.port ≡ port) × (p.link ≡ link))
         (law.PortUp port link) (law.PortGone port link) result
-        (G.was_put gate.old) (G.was_put gate.new) (C.told clock.old) (C.told clock.new)
+        (G.was_put gate.old) (G.was_put gate.new) (C.reported clock.old) (C.reported clock.new)
         (S.remaining stream.old) (S.remaining stream.new) }
     ensures none_taken { G.was_taken gate.new ≡ G.was_taken gate.old }
 {
@@ -98,7 +96,7 @@ fn read_all<R: Wait, D: Decoder, S: Read, G: Gate, C: Clock>(
 ) -> Result<(), LinkFault>
     requires goes_on { reader.old.limit.over ≡ None }
     ensures reads { HasReadAll D.made D.are_all (λ d. D.source d ≡ D.source reader.old.decoder) result reader.old
-        (G.was_put gate.old) (G.was_put gate.new) (C.told clock.old) (C.told clock.new)
+        (G.was_put gate.old) (G.was_put gate.new) (C.reported clock.old) (C.reported clock.new)
         (S.remaining stream.old) (S.remaining stream.new) }
     ensures none_taken { G.was_taken gate.new ≡ G.was_taken gate.old }
 {
@@ -145,7 +143,7 @@ fn await_bytes<S: Read>(stream: &mut S)
 /// Puts an event as soon as there is room for it.
 fn put<R: Wait, G: Gate, C: Clock>(rt: &R, alloc: Global, event: Event, gate: &mut G, clock: &mut C)
     ensures put { G.was_put gate.new ≡ G.was_put gate.old ++ event_seen event ∷ [] }
-    ensures silent { C.told clock.new ≡ C.told clock.old }
+    ensures silent { C.reported clock.new ≡ C.reported clock.old }
     ensures none_taken { G.was_taken gate.new ≡ G.was_taken gate.old }
 {
     let mut waiting = event;

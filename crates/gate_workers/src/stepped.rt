@@ -1,9 +1,9 @@
-//! What a step of a pen did.
+//! What a step of a shared writer did.
 
 use crate::writer::WriterEnd;
 use link_io::LinkFault;
 
-/// What a step of a pen did.
+/// What a step of a shared writer did.
 #[derive(Drop)]
 pub enum Stepped<W> {
     /// It took a list, and the link goes on.

@@ -5,7 +5,8 @@ ghost use Rattle.link_io.specs.Seen.{event_seen};
 ghost use Rattle.gate_workers.specs.TickersWork.{PutsBehind, PutsTicks, client_ticks, port_ticks};
 
 use crate::clock::Clock;
-use link_io::{ClientNumber, Event, Gate, PortNumber};
+use gate_events::{ClientNumber, Event, PortNumber};
+use link_io::Gate;
 use std::alloc::Global;
 use std::sync::Wait;
 use std::sync::atomic::{AtomicBool, Ordering};
@@ -21,7 +22,7 @@ pub fn ticker<R: Wait, G: Gate, C: Clock>(
     clock: &mut C,
     stop: &AtomicBool,
 )
-    ensures ticks { PutsTicks G.gave_back clients ports (C.told clock.old) (C.told clock.new)
+    ensures ticks { PutsTicks G.gave_back clients ports (C.reported clock.old) (C.reported clock.new)
         (G.was_put gate.old) (G.was_put gate.new) }
     ensures none_taken { G.was_taken gate.new ≡ G.was_taken gate.old }
 {

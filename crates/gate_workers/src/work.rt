@@ -1,9 +1,10 @@
-//! What a pen's lock guards.
+//! What a shared writer's lock guards.
 
 ghost use Rattle.std.specs.Prelude.{◌≡◌, ◌≤◌, ◌+◌, [], None, Some, true, false, IfOk, IfErr, OnOk};
 ghost use Rattle.gate_workers.specs.WritersWork.{LineWritten};
 ghost use Rattle.gate_workers.specs.Steps.{step_end};
-ghost use Rattle.gate_workers.specs.Pens.{PenKept, SameLink, LinkTried, NothingHeld, Opens, OpensAs, StepsPen};
+ghost use Rattle.gate_workers.specs.SharedWriters.{WriterKept, SameLink, LinkTried, NothingHeld, Opens, OpensAs};
+ghost use Rattle.gate_workers.specs.SharedWriters.{StepsWriter};
 
 use crate::ending::ends_link;
 use crate::link::Link;
@@ -24,7 +25,7 @@ pub struct Work<W: Prompt + Drop, G: Gate + Drop> {
     /// How many links were opened.
     links: u64,
     link: Option<Link<W, G>>,
-    ghost kept: { ∥ PenKept W.contents G.was_taken links link gate ∥₁ },
+    ghost kept: { ∥ WriterKept W.contents G.was_taken links link gate ∥₁ },
 }
 
 impl<W: Prompt + Drop, G: Gate + Drop> Work<W, G> {
@@ -101,7 +102,7 @@ impl<W: Prompt + Drop, G: Gate + Drop> Work<W, G> {
 
     /// A step of the link's writer. If it ends the link (closed, stopped or a fault), the stream comes back.
     pub fn step(&mut self, alloc: Global, is_stopped: bool) -> Stepped<W>
-        ensures steps { StepsPen W.contents G.was_taken result self.old.links self.old.link self.new.link
+        ensures steps { StepsWriter W.contents G.was_taken result self.old.links self.old.link self.new.link
             self.new.gate }
         ensures links { self.new.links ≡ self.old.links }
         ensures none_put { G.was_put self.new.gate ≡ G.was_put self.old.gate }

@@ -1,11 +1,12 @@
 //! The loop of a thread that writes a link.
 
 ghost use Rattle.std.specs.Prelude.{◌≤◌, IfSome};
-ghost use Rattle.gate_workers.specs.Pens.{WasWritten};
+ghost use Rattle.gate_workers.specs.SharedWriters.{WasWritten};
 
 use crate::clock::Clock;
-use crate::pen::Pen;
-use link_io::{ClientNumber, Gate, LinkFault, PortNumber, Prompt};
+use crate::shared_writer::SharedWriter;
+use gate_events::{ClientNumber, PortNumber};
+use link_io::{Gate, LinkFault, Prompt};
 use std::alloc::Global;
 use std::sync::Wait;
 use std::sync::atomic::AtomicBool;
@@ -19,14 +20,14 @@ pub enum WriterEnd {
     Stopped,
 }
 
-/// Opens a client's link at its pen on this stream, and writes the link's output until the core closes it, or until
-/// `stop` is set and nothing is queued. How it ended, and its stream. Other threads may write promptly by the same pen
-/// meanwhile. It pauses if nothing was queued or memory ran out; if it took a list it steps the core, since an event
-/// may have waited for the room.
+/// Opens a client's link at its shared writer on this stream, and writes the link's output until the core closes it, or
+/// until `stop` is set and nothing is queued. How it ended, and its stream. Other threads may write promptly through
+/// the same shared writer meanwhile. It pauses if nothing was queued or memory ran out; if it took a list it steps the
+/// core, since an event may have waited for the room.
 ///
 /// `WriteFailed` if a write failed or took no byte, `StepLimit` at step number `steps`, 1 or more: of the link's output
-/// the first bytes went out. `None` if the pen has another link open, or this isn't its next one: then nothing is
-/// written.
+/// the first bytes went out. `None` if the shared writer has another link open, or this isn't its next one: then
+/// nothing is written.
 pub fn client_writer<R: Wait, W: Prompt + Drop, G: Gate + Drop, C: Clock>(
     rt: &R,
     alloc: Global,
@@ -34,7 +35,7 @@ pub fn client_writer<R: Wait, W: Prompt + Drop, G: Gate + Drop, C: Clock>(
     link: u64,
     steps: u64,
     stream: W,
-    pen: &Pen<W, G>,
+    shared_writer: &SharedWriter<W, G>,
     clock: &mut C,
     stop: &AtomicBool,
 ) -> Option<(Result<WriterEnd, LinkFault>, W)>
@@ -48,13 +49,13 @@ pub fn client_writer<R: Wait, W: Prompt + Drop, G: Gate + Drop, C: Clock>(
         link,
         steps,
         stream,
-        pen,
+        shared_writer,
         clock,
         stop,
     )
 }
 
-/// Opens a port's link at its pen, and writes its output, as `client_writer` does.
+/// Opens a port's link at its shared writer, and writes its output, as `client_writer` does.
 pub fn port_writer<R: Wait, W: Prompt + Drop, G: Gate + Drop, C: Clock>(
     rt: &R,
     alloc: Global,
@@ -62,7 +63,7 @@ pub fn port_writer<R: Wait, W: Prompt + Drop, G: Gate + Drop, C: Clock>(
     link: u64,
     steps: u64,
     stream: W,
-    pen: &Pen<W, G>,
+    shared_writer: &SharedWriter<W, G>,
     clock: &mut C,
     stop: &AtomicBool,
 ) -> Option<(Result<WriterEnd, LinkFault>, W)>
@@ -76,7 +77,7 @@ pub fn port_writer<R: Wait, W: Prompt + Drop, G: Gate + Drop, C: Clock>(
         link,
         steps,
         stream,
-        pen,
+        shared_writer,
         clock,
         stop,
     )
@@ -90,15 +91,18 @@ fn write_link<R: Wait, W: Prompt + Drop, G: Gate + Drop, C: Clock>(
     link: u64,
     steps: u64,
     stream: W,
-    pen: &Pen<W, G>,
+    shared_writer: &SharedWriter<W, G>,
     clock: &mut C,
     stop: &AtomicBool,
 ) -> Option<(Result<WriterEnd, LinkFault>, W)>
     requires from_one { 1 ≤ steps }
     ensures written { IfSome result (λ e. ∥ WasWritten W.contents e.0 e.1 ∥₁) }
 {
-    if pen.open(rt, alloc, number, link, steps, stream).is_err() {
+    if shared_writer
+        .open(rt, alloc, number, link, steps, stream)
+        .is_err()
+    {
         return None;
     }
-    pen.write_all(rt, alloc, clock, stop)
+    shared_writer.write_all(rt, alloc, clock, stop)
 }

@@ -3,9 +3,10 @@
 use super::no_seed;
 use gateway_run::{
     AuditedDay, Day, DayJournal, RunFault, SettingsFile, end_day, end_stopped, end_stopped_day,
-    run_settings, tell,
+    run_settings, write_fault,
 };
-use gateway_serve::{Bound, OperatorSettings, serve_day, tell_open_orders};
+use gateway_serve::{Bound, serve_day, write_open_orders};
+use operator_settings::OperatorSettings;
 use std::alloc::Global;
 use std::fs::{File, Files};
 use std::hash::RandomState;
@@ -154,12 +155,12 @@ where
         return no_seed(faults);
     };
     let Ok(mut output) = BufWriter::new(alloc, io::writer(rt)) else {
-        return ExitCode::from(tell(RunFault::NoMemory, faults));
+        return ExitCode::from(write_fault(RunFault::NoMemory, faults));
     };
     let end = asked.end();
     let status = match asked.have(rt, alloc, hasher) {
         Ok(day) => status_of(rt, alloc, day, path, end, &mut output, faults),
-        Err(fault) => tell(fault, faults),
+        Err(fault) => write_fault(fault, faults),
     };
     ExitCode::from(status)
 }
@@ -199,13 +200,13 @@ fn status_of<R: Files<File = File>, W: Write, F: Write>(
     };
     let day = match audited {
         Ok(day) => day,
-        Err(fault) => return tell(fault, faults),
+        Err(fault) => return write_fault(fault, faults),
     };
     let status = match end {
         DayEnd::Run | DayEnd::Served => end_day(alloc, &day, output, faults),
         DayEnd::Stopped => end_stopped_day(alloc, &day, output, faults),
     };
-    if end != DayEnd::Run && !tell_open_orders(alloc, &day.pairs, &day.settings, faults) {
+    if end != DayEnd::Run && !write_open_orders(alloc, &day.pairs, &day.settings, faults) {
         return status.max(1);
     }
     status

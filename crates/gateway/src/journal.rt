@@ -1,9 +1,9 @@
 //! The journal of a day that is served, or that stopped and is ended.
 
 use super::{out_of_memory, refused};
-use gateway_command::{Syncs, syncs_of};
+use command_lines::{Syncs, syncs_of};
 use gateway_run::{DayJournal, StoppedDay, StoppedFault};
-use host_log::{FoundLog, OpenFault, StoppedLog, find_log, open_log};
+use journal_log::{FoundLog, OpenFault, StoppedLog, find_log, open_log};
 use std::process::ExitCode;
 
 /// The journal at a path, where one is named, synced as was said; or the status where it can't be had.

@@ -3,13 +3,13 @@
 
 ghost use Rattle.std.specs.Prelude.{◌≤◌};
 
+use command_lines::{Asked, Error, asked, is_version, links_of, write_refusal};
 use day_export::{ExportFault, Format, export_file, format_of};
-use gateway_command::{Asked, Error, asked, is_version, links_of};
+use gate_lines::audit_script;
 use gateway_demo::show_demo;
 use gateway_run::{SettingsFault, SettingsFile, read};
 use journal_audit::{audit_file, audit_so_far, script_file};
 use journal_file::{Ending, ReadFault};
-use script_command::{audit_script, tell_refusal};
 use std::alloc::Global;
 use std::fs::File;
 use std::hash::RandomState;
@@ -116,7 +116,7 @@ fn unasked<W: Write, F: Write>(error: &Error, output: &mut W, faults: &mut F) ->
     if is_version(error) {
         return u8::from(write!(output, "{error}").is_err());
     }
-    tell_refusal(error, output, faults)
+    write_refusal(error, output, faults)
 }
 
 /// The words of the command line, or the status where they can't be had.

@@ -1,7 +1,7 @@
 //! A closed world of a seed, played.
 
 use super::{out_of_memory, refused};
-use gateway_command::number_between;
+use command_lines::number_between;
 use random_world::{Shape, show_world};
 use std::io::{self, BufWriter};
 use std::process::ExitCode;

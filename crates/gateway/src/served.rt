@@ -3,10 +3,10 @@
 use super::days::AskedDay;
 use super::journal::{journal_asked, stopped_at};
 use super::{file_at, out_of_memory, refused_key};
+use gateway_control::{EndReply, ask_end};
 use gateway_run::{SettingsFault, SettingsFile, read};
-use gateway_serve::{
-    ControlSettings, OperatorFault, OperatorSettings, Told, bind_all, read_operator, tell_end,
-};
+use gateway_serve::bind_all;
+use operator_settings::{ControlSettings, OperatorFault, OperatorSettings, read_operator};
 use std::process::ExitCode;
 
 /// What a settings file says, of the gateway and of its operator, or the status where it is refused.
@@ -99,25 +99,25 @@ fn end_at(rt: &HostRuntime, control: &ControlSettings, at_once: bool) -> ExitCod
         None => None,
     };
     let listen = control.listen.as_str();
-    match tell_end(rt, rt.alloc(), listen, token, at_once) {
-        Ok(told) => told_status(rt, listen, told),
+    match ask_end(rt, rt.alloc(), listen, token, at_once) {
+        Ok(told) => end_status(rt, listen, told),
         Err(_) => out_of_memory(rt),
     }
 }
 
 /// The status of what came of telling a gateway to end, and why it isn't 0.
-fn told_status(rt: &HostRuntime, listen: &str, told: Told) -> ExitCode {
+fn end_status(rt: &HostRuntime, listen: &str, told: EndReply) -> ExitCode {
     match told {
-        Told::Ended => ExitCode::from(0),
-        Told::StillThere => {
+        EndReply::Ended => ExitCode::from(0),
+        EndReply::StillThere => {
             let _ = eprintln!(rt; "gateway: it was told to end, and hasn't within 60 seconds");
             ExitCode::from(1)
         }
-        Told::Refused(status) => {
+        EndReply::Refused(status) => {
             let _ = eprintln!(rt; "gateway: it refuses to end: HTTP status {status}");
             ExitCode::from(1)
         }
-        Told::Nobody => {
+        EndReply::Nobody => {
             let _ = eprintln!(rt; "gateway: nobody answers at {listen}");
             ExitCode::from(2)
         }

@@ -6,9 +6,10 @@ use bytes::Bytes;
 use control_guard::{
     Act, Method, Refusal, Request as Asking, Rules, Verdict, View, judged, token_in,
 };
+use gateway_watch::Shown;
 use http::{HeaderMap, HeaderName, HeaderValue, Request, StatusCode, header};
 use http_server::{Response, Service};
-use status_page::{DayNames, Shown, json_of, metrics_of, page_of};
+use status_page::{DayNames, json_of, metrics_of, page_of};
 use std::alloc::{AllocError, Global};
 use std::sync::Wait;
 use std::time::Clock;

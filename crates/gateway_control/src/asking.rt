@@ -1,11 +1,11 @@
 //! How a gateway that runs is told to end.
 
-use decimal_digits::{are_digits, number_of};
 use std::alloc::Global;
 use std::io::{ErrorKind, Read, Write};
 use std::net::{Net, TcpListener, TcpStream, ToSocketAddrs};
 use std::time::{Clock, Duration};
 use std::{io, thread};
+use wire_bytes::{are_digits, number_of};
 
 /// How long a connect, a read and a write may take.
 fn longest_wait() -> Duration {
@@ -24,7 +24,7 @@ fn look() -> Duration {
 
 /// What came of telling a gateway to end.
 #[derive(Clone, Copy, Debug, PartialEq, Eq)]
-pub enum Told {
+pub enum EndReply {
     /// It has ended.
     Ended,
     /// It was told to, and hasn't within 60 seconds.
@@ -37,30 +37,30 @@ pub enum Told {
 
 /// Tells the gateway whose endpoint is at this address to end, at once or after its while, and waits until it has:
 /// until nobody listens there any more, 60 seconds at most. Out of memory comes as an error of that kind.
-pub fn tell_end<R>(
+pub fn ask_end<R>(
     rt: &R,
     alloc: Global,
     address: &str,
     token: Option<&[u8]>,
     is_hurried: bool,
-) -> io::Result<Told>
+) -> io::Result<EndReply>
 where
     R: Net<Listener = TcpListener, Stream = TcpStream> + Clock,
 {
     let request = request_of(alloc, address, token, is_hurried)?;
     let Ok(status) = asked(rt, alloc, address, request.as_slice()) else {
-        return Ok(Told::Nobody);
+        return Ok(EndReply::Nobody);
     };
     if status != 200 {
-        return Ok(Told::Refused(status));
+        return Ok(EndReply::Refused(status));
     }
     for _ in 0..LOOKS {
         if connected(rt, address).is_err() {
-            return Ok(Told::Ended);
+            return Ok(EndReply::Ended);
         }
         thread::sleep(rt, look());
     }
-    Ok(Told::StillThere)
+    Ok(EndReply::StillThere)
 }
 
 /// The request that tells it.

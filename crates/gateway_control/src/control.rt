@@ -1,6 +1,6 @@
 //! What is asked of a day that is served, and what is known of it.
 
-use status_page::StatusBoard;
+use gateway_watch::StatusBoard;
 use std::alloc::{AllocError, Global};
 use std::sync::atomic::{AtomicBool, Ordering};
 

@@ -15,8 +15,6 @@ mod endpoint;
 mod served;
 mod timed;
 
-pub use asking::{Told, tell_end};
+pub use asking::{EndReply, ask_end};
 pub use control::DayControl;
-pub use control_guard::Rules;
 pub use endpoint::{Endpoint, serve_endpoint};
-pub use status_page::DayNames;

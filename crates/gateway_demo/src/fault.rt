@@ -1,7 +1,7 @@
 //! Why the demonstration did not come to its end.
 
 use gateway_run::RunFault;
-use link_sockets::LinkFault;
+use link_io::LinkFault;
 use std::alloc::{AllocError, AllocFailed};
 use std::io;
 

@@ -2,8 +2,9 @@
 
 use crate::fault::DemoFault;
 use gate_core::EnterOrder;
-use market_book::{Choice, Trading};
-use market_sim::{Packet, Packets, Sim, SimEvent};
+use market_law::{Choice, Trading};
+use market_sim::{Sim, SimEvent};
+use soup_packets::{Packet, Packets};
 use std::alloc::Global;
 use std::io::{Read, Write};
 use wire_law::{FixedWire, WholeWire};
@@ -68,8 +69,8 @@ impl Market {
 
     /// Steps the market, and writes what it says.
     fn step<W: Write>(&mut self, event: SimEvent, to: &mut W) -> Result<(), DemoFault> {
-        let said = self.sim.step(self.alloc, event)?;
-        say(self.alloc, said.as_slice(), to)
+        let replies = self.sim.step(self.alloc, event)?;
+        say(self.alloc, replies.as_slice(), to)
     }
 }
 

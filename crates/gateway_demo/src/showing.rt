@@ -1,14 +1,15 @@
 //! All of it at once.
 
 ghost use Rattle.std.specs.Prelude.{◌≡◌, ◌≤◌};
-ghost use Rattle.gateway_run.specs.Told.{AuditIsTold};
+ghost use Rattle.gateway_day.specs.Audits.{AuditIsWritten};
 
 use crate::client::Client;
 use crate::fault::DemoFault;
 use crate::market::Market;
 use crate::settings::demo_settings;
+use gate_serving::{Opened, Opener};
 use gateway_run::{Day, LinkRules, RunFault, RunPlan, audit_day, run};
-use link_sockets::{Acceptor, Connector, Opened, Opener};
+use link_sockets::{Acceptor, Connector};
 use std::alloc::{AllocError, Global};
 use std::hash::RandomState;
 use std::io::{Read, Write};
@@ -61,16 +62,16 @@ pub fn show_demo<R, W: Write, F: Write>(
 where
     R: Threads + Wait + Sync + Clock + Eprint + Net<Listener = TcpListener, Stream = TcpStream>,
     ensures status { result ≤ 1 }
-    ensures told { result ≡ 0 → AuditIsTold (W.contents output.old) (W.contents output.new) }
+    ensures written { result ≡ 0 → AuditIsWritten (W.contents output.old) (W.contents output.new) }
 {
     match demo(rt, alloc, hasher) {
         Ok(day) => audit_day(alloc, day, output, faults),
-        Err(fault) => tell(fault, faults),
+        Err(fault) => write_fault(fault, faults),
     }
 }
 
 /// Tells why the demonstration did not come to its end, and answers its program's status.
-fn tell<F: Write>(fault: DemoFault, faults: &mut F) -> u8
+fn write_fault<F: Write>(fault: DemoFault, faults: &mut F) -> u8
     ensures { result ≡ 1 }
 {
     let _ = match fault {
@@ -183,7 +184,7 @@ fn plan_of<'a, R>(
         ]?,
         ports: vec![in alloc; Connector::new(rt, market, 1, is_over)]?,
         rules: LinkRules {
-            tells_frames: false,
+            logs_frames: false,
             leaves_alone: false,
         },
     })

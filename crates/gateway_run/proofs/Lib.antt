@@ -1,4 +1,2 @@
-mod Audited
-mod Back
 mod Kept
 mod Sent

@@ -8,21 +8,21 @@ use Rattle.std.proofs.Crossing.{crosses}
 use Rattle.std.specs.declared.hash.BuildHasher as BuildHasher
 use Rattle.std.specs.declared.hash.Hasher as Hasher
 use Rattle.desk_gates.proofs.desk.Sent.{shared_sync}
-use Rattle.status_board.proofs.Sent.{board_sync}
+use Rattle.gateway_watch.proofs.Sent.{board_sync}
 use Rattle.desk_gates.specs.desk.declared.DeskName as DeskName
-use Rattle.desk_gates.specs.contracts.bell.BellClock as BellClock
+use Rattle.desk_gates.specs.contracts.waker.WakerClock as WakerClock
 use Rattle.gateway_run.specs.contracts.counted.CountedLinks as CountedLinks
 use Rattle.gateway_run.specs.contracts.run_opener.RunOpener as RunOpener
 use Rattle.gateway_run.specs.contracts.clock.RunClock as RunClock
 use Rattle.gateway_run.specs.contracts.clock.Watch as Watch
 use Rattle.gateway_run.specs.contracts.port_faults.PortLinks as PortLinks
 use Rattle.gateway_run.specs.contracts.memory_watch.MemoryWatch as MemoryWatch
-use Rattle.host_log.specs.contracts.later.LaterSync as LaterSync
+use Rattle.journal_log.specs.contracts.later.LaterSync as LaterSync
 use Rattle.gateway_run.specs.contracts.order_watch.OrderWatch as OrderWatch
 use Rattle.gateway_run.specs.contracts.run_gate.RunGate as RunGate
 use Rattle.gateway_run.specs.contracts.sync_timer.SyncTimer as SyncTimer
-use Rattle.gateway_run.specs.contracts.telling.Teller as Teller
-use Rattle.gateway_run.specs.contracts.telling_gate.TellingGate as TellingGate
+use Rattle.gateway_run.specs.contracts.link_log.LinkLog as LinkLog
+use Rattle.gateway_run.specs.contracts.logged_gate.LoggedGate as LoggedGate
 
 later_send : IsSend LaterSync.the_row
 later_send = search (sendable, crosses) depth 100 fits 500000
@@ -31,37 +31,39 @@ timer_send : IsSend (SyncTimer.the_row LaterSync.the_row)
 timer_send = search (later_send, sendable, crosses) depth 100 fits 500000
 
 module _ (a : NamedLft) (R : RattleType) (r : IsSync R) where
-  pub teller_send : IsSend (Teller.the_row a R)
-  teller_send = declared_send (Teller.the_type a R)
+  pub link_log_send : IsSend (LinkLog.the_row a R)
+  link_log_send = declared_send (LinkLog.the_type a R)
       (search (r, sendable) depth 40, (search (sendable, crosses) depth 40, tt))
 
-  pub telling_send : (G : RattleType) → IsSend G → IsSend (TellingGate.the_row a G R)
-  telling_send G g = declared_send (TellingGate.the_type a G R) (
+  pub logged_gate_send : (G : RattleType) → IsSend G → IsSend (LoggedGate.the_row a G R)
+  logged_gate_send G g = declared_send (LoggedGate.the_type a G R) (
     search (g, sendable) depth 40,
-    (search (sendable, crosses) depth 40, (search (teller_send, sendable) depth 40, tt)),
+    (search (sendable, crosses) depth 40, (search (link_log_send, sendable) depth 40, tt)),
   )
 
   pub memory_watch_send : IsSend (MemoryWatch.the_row a R)
   memory_watch_send = declared_send (MemoryWatch.the_type a R)
-      (search (teller_send, sendable) depth 40, (search (sendable, crosses) depth 40, tt))
+      (search (link_log_send, sendable) depth 40, (search (sendable, crosses) depth 40, tt))
 
   pub order_watch_send : IsSend (OrderWatch.the_row a R)
   order_watch_send = declared_send (OrderWatch.the_type a R)
       (search (r, sendable) depth 40, (search (sendable, crosses) depth 40, (search (sendable, crosses) depth 40, tt)))
 
 module _ (a : NamedLft) (K R : RattleType) (k : DeskName.Ghosts K.Denot) (r : IsSync R) where
-  pub bell_send : (S T : RattleType) (g : BuildHasher.Ghosts S.Denot T.Denot) (h : Hasher.Ghosts T.Denot) → IsSend S
-      → IsSend (BellClock.the_row a K R S T k g h)
-  bell_send S T g h s = let shared = shared_sync K S T k g h s in declared_send (BellClock.the_type a K R S T k g h) (
-    search (r, sendable),
-    (
-      search (shared, sendable) depth 40,
-      (
-        search sendable,
-        (search (sendable, crosses) depth 40, (search sendable, tt)),
-      ),
-    ),
-  )
+  pub waker_clock_send : (S T : RattleType) (g : BuildHasher.Ghosts S.Denot T.Denot) (h : Hasher.Ghosts T.Denot)
+      → IsSend S
+      → IsSend (WakerClock.the_row a K R S T k g h)
+  waker_clock_send S T g h s = let shared = shared_sync K S T k g h s in
+      declared_send (WakerClock.the_type a K R S T k g h) (
+        search (r, sendable),
+        (
+          search (shared, sendable) depth 40,
+          (
+            search sendable,
+            (search (sendable, crosses) depth 40, (search sendable, tt)),
+          ),
+        ),
+      )
 
   pub port_links_send : (C : RattleType) → IsSend C → IsSend (PortLinks.the_row a C K R k)
   port_links_send C c = declared_send (PortLinks.the_type a C K R k) (
@@ -130,7 +132,7 @@ module _ (a : NamedLft) (K R : RattleType) (k : DeskName.Ghosts K.Denot) (r : Is
         (
           search (shared_sync, sendable) depth 40,
           (
-            search (teller_send, r, sendable) depth 40,
+            search (link_log_send, r, sendable) depth 40,
             (
               search sendable,
               (search (sendable, crosses) depth 40, (search sendable, (search sendable, (search sendable, tt)))),

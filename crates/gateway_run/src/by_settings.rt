@@ -2,15 +2,13 @@
 
 ghost use Rattle.std.specs.Prelude.{IfOk};
 
-use crate::day::Day;
-use crate::day_journal::DayJournal;
 use crate::ends::{LinkRules, RunPlan};
-use crate::fault::RunFault;
+use crate::link_log::{LinkLog, LoggedOpener, Whose};
 use crate::running::run_shown;
-use crate::telling::{Teller, Telling, Whose};
+use gateway_day::{Day, DayJournal, RunFault};
+use gateway_watch::StatusBoard;
 use link_sockets::{Acceptor, Connector};
 use settings_file::SettingsFile;
-use status_board::StatusBoard;
 use std::alloc::{AllocError, Global};
 use std::hash::RandomState;
 use std::net::{Net, TcpListener, TcpStream};
@@ -78,7 +76,10 @@ where
 }
 
 /// The openers of a gateway: of its clients' links, and of its ports'.
-type Openers<'a, R> = RunPlan<Telling<'a, Acceptor<'a, R>, R>, Telling<'a, Connector<'a, R>, R>>;
+type Openers<'a, R> = RunPlan<
+    LoggedOpener<'a, Acceptor<'a, R>, R>,
+    LoggedOpener<'a, Connector<'a, R>, R>,
+>;
 
 /// So many links of each client and port, by their addresses.
 fn plan_of<'a, R: Clock + Eprint>(
@@ -92,20 +93,20 @@ fn plan_of<'a, R: Clock + Eprint>(
     let mut clients = Vec::with_capacity(alloc, listens.len())?;
     for address in listens {
         let opener = Acceptor::new(rt, address, links, is_over);
-        let teller = Teller::new(rt, Whose::Client(clients.len().saturating_add(1)));
-        clients.push(Telling::new(teller, opener))?;
+        let link_log = LinkLog::new(rt, Whose::Client(clients.len().saturating_add(1)));
+        clients.push(LoggedOpener::new(link_log, opener))?;
     }
     let mut ports = Vec::with_capacity(alloc, addresses.len())?;
     for address in addresses {
         let opener = Connector::new(rt, address, links, is_over);
-        let teller = Teller::new(rt, Whose::Port(ports.len().saturating_add(1)));
-        ports.push(Telling::new(teller, opener))?;
+        let link_log = LinkLog::new(rt, Whose::Port(ports.len().saturating_add(1)));
+        ports.push(LoggedOpener::new(link_log, opener))?;
     }
     Ok(RunPlan {
         clients,
         ports,
         rules: LinkRules {
-            tells_frames: true,
+            logs_frames: true,
             leaves_alone: false,
         },
     })

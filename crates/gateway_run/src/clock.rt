@@ -1,14 +1,16 @@
 //! The clocks of readers, and of the worker that has time pass.
 
+use crate::context::Context;
 use crate::counted::ClientCounts;
 use crate::memory_watch::MemoryWatch;
 use crate::order_watch::OrderWatch;
 use crate::sync_timer::SyncTimer;
-use desk_gates::{DeskName, Shared};
-use gate_serving::Clock;
-use host_log::LaterSync;
+use desk::Shared;
+use desk_rings::DeskName;
+use gate_workers::Clock;
+use gateway_watch::StatusBoard;
+use journal_log::LaterSync;
 use link_sockets::SystemClock;
-use status_board::StatusBoard;
 use std::alloc::Global;
 use std::hash::RandomState;
 use std::sync::Wait;
@@ -50,32 +52,27 @@ impl<'a, K: DeskName, R: Wait + time::Clock + Eprint> RunClock<'a, K, R> {
         }
     }
 
-    /// Of the worker that has time pass for this desk: once these clients have been left alone for a hundred pauses
-    /// `is_over` is set, also once the journal is lost, and how all stand goes onto this board. It is told of orders
-    /// that wait at ports that aren't up; of each client `ports_of` has its port. Takes no memory.
+    /// Of the worker that has time pass: once the clients have been left alone for a hundred pauses the day is over,
+    /// also once the journal is lost, and how all stand goes onto the board. It is told of orders that wait at ports
+    /// that aren't up. Takes no memory.
     pub(crate) fn watching(
-        rt: &'a R,
-        alloc: Global,
-        shared: &'a Shared<K, RandomState>,
-        counts: &'a ClientCounts,
-        ports_of: &'a [u16],
-        is_over: &'a AtomicBool,
-        board: &'a StatusBoard,
+        context: &Context<'a, K, R>,
         syncs: Option<SyncTimer<LaterSync>>,
     ) -> RunClock<'a, K, R> {
+        let rt = context.rt;
         RunClock {
             clock: SystemClock::new(rt, pause()),
             watch: Some(Watch {
                 rt,
-                alloc,
-                shared,
-                counts,
-                is_over,
-                board,
+                alloc: context.alloc,
+                shared: context.shared,
+                counts: &context.states.clients,
+                is_over: context.is_over,
+                board: context.board,
                 idle: 0,
                 memory: MemoryWatch::new(rt),
                 next_status: 0,
-                orders: OrderWatch::new(rt, ports_of),
+                orders: OrderWatch::new(rt, context.layout.ports_of.as_slice()),
                 syncs,
             }),
         }
@@ -85,7 +82,7 @@ impl<'a, K: DeskName, R: Wait + time::Clock + Eprint> RunClock<'a, K, R> {
 impl<'a, K: DeskName, R: Wait + time::Clock + Eprint> Clock for RunClock<'a, K, R> {
     ghost use Rattle.std.specs.Prelude.{None};
 
-    ghost told = { λ _. None };
+    ghost reported = { λ _. None };
 
     fn now_ms(&mut self) -> u64 {
         self.clock.now_ms()
@@ -119,16 +116,17 @@ struct Watch<'a, K: DeskName, R> {
 }
 
 impl<'a, K: DeskName, R: Wait + time::Clock + Eprint> Watch<'a, K, R> {
-    /// Pauses until the next round of ticks, and rings the bells of writers for whom something waits.
+    /// Pauses until the next round of ticks, and wakes the writers for whom something waits.
     fn pause(&mut self, clock: &mut SystemClock<'a, R>) {
         let end = clock.now_ms().saturating_add(u64::from(BETWEEN_TICKS));
         for _ in 0..BETWEEN_TICKS {
             clock.pause();
-            self.shared.ring_waiting(self.rt);
+            self.shared.wake_waiting(self.rt);
             self.shared.turns_wanted(self.alloc);
-            self.show(clock.now_ms());
-            self.sync(clock.now_ms());
-            if clock.now_ms() >= end {
+            let now = clock.now_ms();
+            self.show(now);
+            self.sync(now);
+            if now >= end {
                 break;
             }
         }

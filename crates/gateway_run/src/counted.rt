@@ -1,6 +1,7 @@
 //! The links of clients, counted: who has to end with them knows when they are over.
 
-use gate_serving::{LinkEnd, LinkFault, Opened, Opener};
+use gate_serving::{LinkEnd, Opened, Opener};
+use link_io::LinkFault;
 use std::alloc::{AllocError, Global};
 use std::sync::atomic::{AtomicBool, AtomicU8, AtomicU32, Ordering};
 
@@ -23,6 +24,11 @@ impl LinkStates {
             clients: ClientCounts::of(clients),
             letters,
         })
+    }
+
+    /// Where the letter of the port of this number, from 1, is kept.
+    pub(crate) fn letter_of(&self, number: u16) -> Option<&AtomicU8> {
+        self.letters.get(usize::from(number).wrapping_sub(1))
     }
 }
 

@@ -3,15 +3,17 @@
 ghost use Rattle.std.specs.Prelude.{◌≡◌, All, true};
 ghost use Rattle.gateway_run.specs.Own.{source_of_peer};
 
+use crate::context::Context;
 use crate::counted::CountedLinks;
-use crate::lines::{RunLine, line_of, teller_of};
+use crate::lines::{RunLine, line_of, link_log_of};
 use crate::port_faults::PortLinks;
 use crate::run_gate::RunGate;
 use crate::run_opener::RunOpener;
-use desk_gates::{DeskName, Inlet, InletGate, OutletEnd, OutletPen, Prompt, Shared};
+use desk_gates::{InletGate, OutletEnd, OutletWriter};
+use desk_rings::{DeskName, Inlet};
 use gate_events::{Recipient, Source};
+use link_io::Prompt;
 use std::alloc::{AllocError, Global};
-use std::hash::RandomState;
 use std::sync::Wait;
 use std::sync::atomic::AtomicU8;
 use std::time::Clock;
@@ -30,7 +32,7 @@ pub struct RunPlan<A, C> {
 pub struct LinkRules {
     /// Whether standard error has how many bytes of a client's link were part of no frame, and each Reject,
     /// ResendRequest and Logout that a client is sent.
-    pub tells_frames: bool,
+    pub logs_frames: bool,
     /// Whether a port that is faulted, or whose session the market has ended, isn't connected again, and one whose
     /// login was rejected only after a pause.
     pub leaves_alone: bool,
@@ -40,11 +42,10 @@ pub struct LinkRules {
 /// client or port, and takes what that is told.
 #[derive(Drop)]
 pub(crate) struct Ends<'p, 'a, W: Prompt + Drop, G: OutletEnd + Drop, A, C, K: DeskName, R> {
-    alloc: Global,
     rules: LinkRules,
     pub(crate) lines: Vec<RunLine<'p, 'a, W, G, A, C, K, R>>,
     ghost puts_own: { All (λ l. l.reader.gate.gate.inlet.source ≡ source_of_peer l.peer) lines.items },
-    ghost takes_own: { All (λ l. G.told l.writer.pen.now.first.value ≡ l.peer) lines.items },
+    ghost takes_own: { All (λ l. G.output_for l.writer.shared_writer.now.first.value ≡ l.peer) lines.items },
 }
 
 impl<
@@ -60,7 +61,6 @@ impl<
     /// No line yet.
     fn new(alloc: Global, rules: LinkRules) -> Ends<'p, 'a, W, G, A, C, K, R> {
         Ends {
-            alloc,
             rules,
             lines: Vec::new(alloc),
         }
@@ -69,20 +69,19 @@ impl<
     /// Adds the line of a client or port over its inlet and outlet. One over another's would not be added.
     fn add(
         &mut self,
-        rt: &'a R,
-        shared: &'a Shared<K, RandomState>,
+        context: &Context<'a, K, R>,
         peer: Recipient,
         opener: RunOpener<CountedLinks<'a, A>, PortLinks<'a, C, K, R>>,
         inlet: Inlet<K>,
-        pens: &'p [OutletPen<W, G>],
-        pen: &'p OutletPen<W, G>,
+        outlet_writers: &'p [OutletWriter<W, G>],
+        outlet_writer: &'p OutletWriter<W, G>,
     ) -> Result<(), AllocError> {
-        if is_of(&inlet, source_of(&peer)) && is_to(pen, &peer) {
+        if is_of(&inlet, source_of(&peer)) && is_to(outlet_writer, &peer) {
             let at = inlet.position();
-            let teller = teller_of(rt, self.rules.tells_frames, &peer);
-            let own = InletGate::new(shared, pens, inlet);
-            let gate = RunGate::new(rt, self.alloc, shared, own, teller, letter_of(&opener));
-            let line = line_of(rt, shared, peer, opener, gate, at, pen);
+            let link_log = link_log_of(context.rt, self.rules.logs_frames, &peer);
+            let own = InletGate::new(context.shared, outlet_writers, inlet);
+            let gate = RunGate::new(context, own, link_log, letter_of(&opener));
+            let line = line_of(context, peer, opener, gate, at, outlet_writer);
             return self.keep(line);
         }
         Ok(())
@@ -91,7 +90,7 @@ impl<
     /// Adds a line that is over its own ends.
     fn keep(&mut self, line: RunLine<'p, 'a, W, G, A, C, K, R>) -> Result<(), AllocError>
         requires puts_own { line.reader.gate.gate.inlet.source ≡ source_of_peer line.peer }
-        requires takes_own { G.told line.writer.pen.now.first.value ≡ line.peer }
+        requires takes_own { G.output_for line.writer.shared_writer.now.first.value ≡ line.peer }
     {
         self.lines.push(line)?;
         Ok(())
@@ -125,17 +124,18 @@ fn is_of<K: DeskName>(inlet: &Inlet<K>, source: Source) -> bool
     inlet.source() == source
 }
 
-/// Whether a pen writes what this one is told.
+/// Whether an outlet's writer writes what this one is told.
 fn is_to<W: Prompt + Drop, G: OutletEnd + Drop>(
-    pen: &OutletPen<W, G>,
+    outlet_writer: &OutletWriter<W, G>,
     recipient: &Recipient,
 ) -> bool
-    ensures { result ≡ true → pen.now.to ≡ recipient.now }
+    ensures { result ≡ true → outlet_writer.now.to ≡ recipient.now }
 {
-    pen.recipient() == *recipient
+    outlet_writer.recipient() == *recipient
 }
 
-/// Lines over the inlets and the outlets' pens of a desk: each inlet of a client or port with the pen at its position.
+/// Lines over the inlets and the outlets' writers of a desk: each inlet of a client or port with the writer at its
+/// position.
 pub(crate) fn ends_of<
     'p,
     'a,
@@ -146,32 +146,30 @@ pub(crate) fn ends_of<
     K: DeskName,
     R: Wait + Clock + Eprint,
 >(
-    rt: &'a R,
-    alloc: Global,
-    shared: &'a Shared<K, RandomState>,
+    context: &Context<'a, K, R>,
     inlets: Vec<Inlet<K>>,
-    pens: &'p [OutletPen<W, G>],
+    outlet_writers: &'p [OutletWriter<W, G>],
     clients: Vec<CountedLinks<'a, A>>,
     ports: Vec<PortLinks<'a, C, K, R>>,
     rules: LinkRules,
 ) -> Result<Ends<'p, 'a, W, G, A, C, K, R>, AllocError> {
     let mut accepting = clients.into_iter();
     let mut connecting = ports.into_iter();
-    let mut ends = Ends::new(alloc, rules);
-    for (inlet, pen) in inlets.into_iter().zip(pens) {
+    let mut ends = Ends::new(context.alloc, rules);
+    for (inlet, outlet_writer) in inlets.into_iter().zip(outlet_writers) {
         match inlet.source() {
             Source::Client(client) => {
                 if let Some(links) = accepting.next() {
                     let opener = RunOpener::Client(links);
                     let peer = Recipient::Client(client);
-                    ends.add(rt, shared, peer, opener, inlet, pens, pen)?;
+                    ends.add(context, peer, opener, inlet, outlet_writers, outlet_writer)?;
                 }
             }
             Source::Port(port) => {
                 if let Some(links) = connecting.next() {
                     let opener = RunOpener::Port(links);
                     let peer = Recipient::Port(port);
-                    ends.add(rt, shared, peer, opener, inlet, pens, pen)?;
+                    ends.add(context, peer, opener, inlet, outlet_writers, outlet_writer)?;
                 }
             }
             Source::Clock => {}

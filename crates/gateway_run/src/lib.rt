@@ -4,12 +4,12 @@
 
 mod by_settings;
 mod clock;
+mod context;
 mod counted;
-mod day;
-mod day_journal;
 mod ends;
-mod fault;
 mod lines;
+mod link_log;
+mod logged_gate;
 mod login_pause;
 mod memory_watch;
 mod order_watch;
@@ -19,19 +19,21 @@ mod run_gate;
 mod run_opener;
 mod running;
 mod sync_timer;
-mod telling;
-mod telling_gate;
 
-pub use audit_lines::{History, OrderPair, ReadingFault, Settings, audit};
 pub use by_settings::{end_stopped, run_settings};
-pub use day::{AuditedDay, Day, audit_day, end_day, end_stopped_day, tell};
-pub use day_journal::{DayJournal, StoppedDay, StoppedFault};
 pub use ends::{LinkRules, RunPlan};
-pub use fault::RunFault;
+pub use gate_audit::{OrderPair, audit};
 pub use gate_events::PortNumber;
+pub use gate_journal::History;
+pub use gate_settings::Settings;
+pub use gateway_day::{
+    AuditedDay, Day, DayJournal, RunFault, StoppedDay, StoppedFault, audit_day, end_day,
+    end_stopped_day, write_fault,
+};
+pub use gateway_watch::StatusBoard;
+pub use link_log::{LinkLog, Whose};
+pub use order_accounts::ReadingFault;
 pub use running::{run, run_shown};
 pub use settings_file::{SettingsFault, SettingsFile, read};
 pub use soup_session::PortFault;
-pub use status_board::StatusBoard;
 pub use sync_timer::SyncTimer;
-pub use telling::{Teller, Whose};

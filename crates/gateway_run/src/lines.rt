@@ -4,31 +4,30 @@ ghost use Rattle.std.specs.Prelude.{◌≡◌, All, [], None, IfSome};
 ghost use Rattle.gate_events.specs.declared.source.Source.TheVariants as sources;
 
 use crate::clock::RunClock;
-use crate::counted::{ClientCounts, CountedLinks};
+use crate::context::Context;
+use crate::counted::CountedLinks;
+use crate::link_log::{LinkLog, Whose};
+use crate::logged_gate::LoggedGate;
 use crate::port_faults::PortLinks;
 use crate::run_gate::RunGate;
 use crate::run_opener::RunOpener;
 use crate::sync_timer::SyncTimer;
-use crate::telling::{Teller, Whose};
-use crate::telling_gate::TellingGate;
-use desk_gates::{
-    BellClock, DeskName, Finished, Inlet, InletGate, Outlet, OutletEnd, OutletGate, OutletPen,
-    Prompt, Shared,
-};
+use desk::Shared;
+use desk_gates::{InletGate, OutletEnd, OutletGate, OutletWriter, WakerClock};
+use desk_rings::{DeskName, Finished, Inlet, Outlet};
 use gate_events::{Recipient, Source};
-use gate_serving::{Line, LinkFault, PenWorker, Ticks, Worker};
-use host_log::LaterSync;
-use status_board::StatusBoard;
+use gate_serving::{Line, Ticks, Worker, WriterWorker};
+use journal_log::LaterSync;
+use link_io::{LinkFault, Prompt};
 use std::alloc::{AllocError, Global};
 use std::hash::RandomState;
 use std::sync::Wait;
-use std::sync::atomic::AtomicBool;
 use std::time::{Clock, Duration};
 
 /// How many steps a worker makes of one link at most.
 const STEPS: u64 = 1_000_000_000_000;
 
-/// How long a writer sleeps at most where nobody rings its outlet's bell: then it looks whether there is memory again.
+/// How long a writer sleeps at most where nobody wakes its outlet: then it looks whether there is memory again.
 fn longest_sleep() -> Duration {
     Duration::from_millis(10)
 }
@@ -42,13 +41,13 @@ pub(crate) type ReadingGate<'p, 'a, W, G, K, R> = RunGate<
 >;
 
 /// The gate of a writer over an outlet.
-pub(crate) type WritingGate<'a, K, R> = TellingGate<'a, OutletGate<'a, K, RandomState>, R>;
+pub(crate) type WritingGate<'a, K, R> = LoggedGate<'a, OutletGate<'a, K, RandomState>, R>;
 
 /// A line of a gateway.
 pub(crate) type RunLine<'p, 'a, W, G, A, C, K, R> = Line<
     RunOpener<CountedLinks<'a, A>, PortLinks<'a, C, K, R>>,
     Worker<ReadingGate<'p, 'a, W, G, K, R>, RunClock<'a, K, R>>,
-    PenWorker<'p, W, G, BellClock<'a, K, R, RandomState>>,
+    WriterWorker<'p, W, G, WakerClock<'a, K, R, RandomState>>,
 >;
 
 /// The ticks of a gateway.
@@ -58,29 +57,21 @@ pub(crate) type RunTicks<'p, 'a, W, G, K, R> = Ticks<
     RunClock<'a, K, R>,
 >;
 
-/// How many clients and ports there are.
-#[derive(Clone, Copy)]
-pub(crate) struct Count {
-    pub(crate) clients: u16,
-    pub(crate) ports: u16,
-}
-
-/// The line of a client or port over the gate of its inlet and the pen of its outlet, both at this position.
+/// The line of a client or port over the gate of its inlet and the writer of its outlet, both at this position.
 pub(crate) fn line_of<'p, 'a, W: Prompt + Drop, G: OutletEnd + Drop, A, C, K, R>(
-    rt: &'a R,
-    shared: &'a Shared<K, RandomState>,
+    context: &Context<'a, K, R>,
     peer: Recipient,
     opener: RunOpener<CountedLinks<'a, A>, PortLinks<'a, C, K, R>>,
     gate: ReadingGate<'p, 'a, W, G, K, R>,
     at: usize,
-    pen: &'p OutletPen<W, G>,
+    outlet_writer: &'p OutletWriter<W, G>,
 ) -> RunLine<'p, 'a, W, G, A, C, K, R>
 where
     K: DeskName,
     R: Wait + Clock + Eprint,
     ensures peer { result.peer ≡ peer }
     ensures gate { result.reader.gate ≡ gate.entry }
-    ensures pen { G.told result.writer.pen.now.first.value ≡ pen.now.to }
+    ensures shared_writer { G.output_for result.writer.shared_writer.now.first.value ≡ outlet_writer.now.to }
     ensures fault { result.fault ≡ None }
 {
     Line {
@@ -90,25 +81,21 @@ where
         opener,
         reader: Worker {
             gate,
-            clock: RunClock::new(rt),
+            clock: RunClock::new(context.rt),
         },
-        writer: PenWorker::new(pen.pen(), BellClock::new(rt, shared, at, longest_sleep())),
+        writer: WriterWorker::new(
+            outlet_writer.shared_writer(),
+            WakerClock::new(context.rt, context.shared, at, longest_sleep()),
+        ),
     }
 }
 
-/// Ticks for so many clients and ports through the clock's inlet, where they are due, until `is_over` is set, how all
-/// stand onto this board, and a journal's later syncs; of each client `ports_of` has its port. None through another's.
+/// Ticks for each client and port through the clock's inlet, where they are due, until the day is over, how all stand
+/// onto the board, and a journal's later syncs. None through another's inlet.
 pub(crate) fn ticks_of<'p, 'a, W: Prompt + Drop, G: OutletEnd + Drop, K, R>(
-    rt: &'a R,
-    alloc: Global,
-    shared: &'a Shared<K, RandomState>,
-    count: Count,
-    ports_of: &'a [u16],
-    counts: &'a ClientCounts,
-    is_over: &'a AtomicBool,
-    board: &'a StatusBoard,
+    context: &Context<'a, K, R>,
     inlet: Inlet<K>,
-    pens: &'p [OutletPen<W, G>],
+    outlet_writers: &'p [OutletWriter<W, G>],
     syncs: Option<SyncTimer<LaterSync>>,
 ) -> Option<RunTicks<'p, 'a, W, G, K, R>>
 where
@@ -117,14 +104,13 @@ where
     ensures own { IfSome result (λ ticks. ticks.gate.gate.inlet.source ≡ sources.Clock) }
 {
     if inlet.source() == Source::Clock {
-        let Count { clients, ports } = count;
-        let own = InletGate::new(shared, pens, inlet);
+        let own = InletGate::new(context.shared, outlet_writers, inlet);
         return Some(Ticks {
-            clients,
-            ports,
-            is_over,
-            gate: RunGate::new(rt, alloc, shared, own, None, None),
-            clock: RunClock::watching(rt, alloc, shared, counts, ports_of, is_over, board, syncs),
+            clients: context.layout.clients,
+            ports: context.layout.ports,
+            is_over: context.is_over,
+            gate: RunGate::new(context, own, None, None),
+            clock: RunClock::watching(context, syncs),
         });
     }
     None
@@ -189,13 +175,13 @@ impl<K: DeskName> Left<K> {
         Ok(())
     }
 
-    /// Ends the outlets of pens, and keeps what was taken. One whose link isn't over is let go.
+    /// Ends the outlets of writers, and keeps what was taken. One whose link isn't over is let go.
     pub(crate) fn end_outlets<'a, W: Prompt + Drop, R: Clock + Eprint>(
         &mut self,
-        pens: Vec<OutletPen<W, WritingGate<'a, K, R>>>,
+        outlet_writers: Vec<OutletWriter<W, WritingGate<'a, K, R>>>,
     ) -> Result<(), AllocError> {
-        for pen in pens {
-            if let Some(gate) = pen.into_gate() {
+        for outlet_writer in outlet_writers {
+            if let Some(gate) = outlet_writer.into_gate() {
                 self.finished.push(gate.into_gate().finish())?;
             }
         }
@@ -203,47 +189,47 @@ impl<K: DeskName> Left<K> {
     }
 }
 
-/// The pens of a desk's outlets, by position.
-pub(crate) fn pens_of<'a, W: Prompt + Drop, K: DeskName, R: Clock + Eprint>(
+/// The writers of a desk's outlets, by position.
+pub(crate) fn outlet_writers_of<'a, W: Prompt + Drop, K: DeskName, R: Clock + Eprint>(
     rt: &'a R,
     alloc: Global,
     shared: &'a Shared<K, RandomState>,
     outlets: Vec<Outlet<K>>,
-    tells_frames: bool,
-) -> Result<Vec<OutletPen<W, WritingGate<'a, K, R>>>, AllocError> {
-    let mut pens = Vec::with_capacity(alloc, outlets.len())?;
+    logs_frames: bool,
+) -> Result<Vec<OutletWriter<W, WritingGate<'a, K, R>>>, AllocError> {
+    let mut outlet_writers = Vec::with_capacity(alloc, outlets.len())?;
     for outlet in outlets {
-        let teller = frame_teller_of(rt, tells_frames, &outlet.recipient());
-        let gate = TellingGate::new(alloc, OutletGate::new(shared, outlet), teller);
-        pens.push(OutletPen::new(gate))?;
+        let link_log = frame_log_of(rt, logs_frames, &outlet.recipient());
+        let gate = LoggedGate::new(alloc, OutletGate::new(shared, outlet), link_log);
+        outlet_writers.push(OutletWriter::new(gate))?;
     }
-    Ok(pens)
+    Ok(outlet_writers)
 }
 
 /// Who tells of the frames that a client is sent, where that is told of; of what a port is sent nobody does.
-fn frame_teller_of<'a, R: Clock + Eprint>(
+fn frame_log_of<'a, R: Clock + Eprint>(
     rt: &'a R,
-    tells_frames: bool,
+    logs_frames: bool,
     whose: &Recipient,
-) -> Option<Teller<'a, R>> {
+) -> Option<LinkLog<'a, R>> {
     match whose {
-        Recipient::Client(client) if tells_frames => {
-            Some(Teller::new(rt, Whose::Client(usize::from(client.number()))))
+        Recipient::Client(client) if logs_frames => {
+            Some(LinkLog::new(rt, Whose::Client(usize::from(client.number()))))
         }
         _ => None,
     }
 }
 
 /// Who tells of what a client's or port's links bring, where that is told of.
-pub(crate) fn teller_of<'a, R: Clock + Eprint>(
+pub(crate) fn link_log_of<'a, R: Clock + Eprint>(
     rt: &'a R,
-    tells_frames: bool,
+    logs_frames: bool,
     whose: &Recipient,
-) -> Option<Teller<'a, R>> {
-    if !tells_frames {
+) -> Option<LinkLog<'a, R>> {
+    if !logs_frames {
         return None;
     }
-    Some(Teller::new(
+    Some(LinkLog::new(
         rt,
         match whose {
             Recipient::Client(client) => Whose::Client(usize::from(client.number())),

@@ -1,6 +1,6 @@
 //! What is told of memory that is refused, as it comes and as it goes.
 
-use crate::telling::{Teller, Whose};
+use crate::link_log::{LinkLog, Whose};
 use std::fmt;
 use std::fmt::{Display, Formatter};
 use std::time::Clock;
@@ -8,7 +8,7 @@ use std::time::Clock;
 /// Tells once that events wait for memory, and once that they don't any more.
 #[derive(Drop)]
 pub(crate) struct MemoryWatch<'a, R> {
-    teller: Teller<'a, R>,
+    link_log: LinkLog<'a, R>,
     /// Since when memory is refused, in milliseconds since 1970.
     since: Option<u64>,
 }
@@ -17,7 +17,7 @@ impl<'a, R: Clock + Eprint> MemoryWatch<'a, R> {
     /// Memory is there. Takes none.
     pub(crate) fn new(rt: &'a R) -> MemoryWatch<'a, R> {
         MemoryWatch {
-            teller: Teller::new(rt, Whose::Gateway),
+            link_log: LinkLog::new(rt, Whose::Gateway),
             since: None,
         }
     }
@@ -27,11 +27,11 @@ impl<'a, R: Clock + Eprint> MemoryWatch<'a, R> {
         match self.since {
             None if is_refused => {
                 self.since = Some(now);
-                self.teller.tell("out of memory: events wait");
+                self.link_log.log("out of memory: events wait");
             }
             Some(since) if !is_refused => {
                 self.since = None;
-                self.teller.tell_of(&IsBack(now.saturating_sub(since)));
+                self.link_log.log_of(&IsBack(now.saturating_sub(since)));
             }
             _ => {}
         }

@@ -3,11 +3,12 @@
 ghost use Rattle.std.specs.Prelude.{◌≡◌, ◌<◌, IfOk};
 ghost use Rattle.gateway_run.specs.Waiting as spec;
 
-use crate::telling::{Teller, Whose};
-use audit_lines::Settings;
+use crate::link_log::{LinkLog, Whose};
+use desk_steps::Status;
 use fix_stamp::stamp;
-use port_waits::{PortWait, due_since, orders_at, orders_wait, wait_after};
-use status_board::{PortRow, Status};
+use gate_core::PortRow;
+use gate_settings::Settings;
+use gateway_watch::{PortWait, due_since, orders_at, orders_wait, wait_after};
 use std::alloc::{AllocError, Global};
 use std::fmt::{Display, Formatter};
 use std::time::Clock;
@@ -66,7 +67,7 @@ impl<'a, R: Clock + Eprint> OrderWatch<'a, R> {
         let before = self.waits[place];
         self.waits[place] = wait_after(before, is_waiting, now);
         if let Some(since) = due_since(before, is_waiting, now) {
-            Teller::new(self.rt, Whose::Port(number)).tell_of(&OrdersWait { orders, since });
+            LinkLog::new(self.rt, Whose::Port(number)).log_of(&OrdersWait { orders, since });
         }
     }
 }

@@ -2,11 +2,15 @@
 
 ghost use Rattle.std.specs.Prelude.{◌≡◌};
 
+use crate::context::Context;
+use crate::link_log::{LinkLog, Whose};
 use crate::login_pause::pause_behind;
-use crate::telling::{Teller, Whose};
-use desk_gates::{DeskName, Shared};
-use gate_serving::{LinkEnd, LinkFault, Opened, Opener};
-use status_board::{PortState, fault_name};
+use desk::Shared;
+use desk_rings::DeskName;
+use gate_serving::{LinkEnd, Opened, Opener};
+use gateway_watch::fault_name;
+use link_io::LinkFault;
+use soup_session::PortState;
 use std::alloc::Global;
 use std::fmt::{Display, Formatter};
 use std::hash::RandomState;
@@ -34,7 +38,7 @@ pub(crate) struct PortLinks<'a, C, K: DeskName, R> {
     number: u16,
     opener: C,
     leaves_alone: bool,
-    is_told: bool,
+    is_reported: bool,
     alloc: Global,
     /// The letter with which the last login was rejected; 0 where it wasn't.
     letter: Option<&'a AtomicU8>,
@@ -46,26 +50,22 @@ pub(crate) struct PortLinks<'a, C, K: DeskName, R> {
 impl<'a, C, K: DeskName, R: Wait + Clock + Eprint> PortLinks<'a, C, K, R> {
     /// Of the port of this number, until the day is over; whether it is left alone at times. Takes no memory.
     pub(crate) fn new(
-        rt: &'a R,
-        alloc: Global,
-        shared: &'a Shared<K, RandomState>,
+        context: &Context<'a, K, R>,
         number: u16,
         opener: C,
         leaves_alone: bool,
-        letter: Option<&'a AtomicU8>,
-        is_over: &'a AtomicBool,
     ) -> PortLinks<'a, C, K, R> {
         PortLinks {
-            rt,
-            shared,
+            rt: context.rt,
+            shared: context.shared,
             number,
             opener,
             leaves_alone,
-            is_told: false,
-            alloc,
-            letter,
+            is_reported: false,
+            alloc: context.alloc,
+            letter: context.states.letter_of(number),
             rejected: 0,
-            is_over,
+            is_over: context.is_over,
         }
     }
 
@@ -74,20 +74,20 @@ impl<'a, C, K: DeskName, R: Wait + Clock + Eprint> PortLinks<'a, C, K, R> {
         self.letter
     }
 
-    /// Tells why there is no further link, where there is none and that wasn't told.
+    /// Tells why there is no further link, where there is none and that wasn't reported.
     fn look(&mut self)
         ensures { self.new.opener ≡ self.old.opener }
     {
-        if self.is_told {
+        if self.is_reported {
             return;
         }
         if let Some(fault) = self.shared.port_fault(self.rt, self.number) {
-            self.is_told = true;
-            self.teller()
-                .tell_port_fault(fault.number(), fault_name(fault));
+            self.is_reported = true;
+            self.link_log()
+                .log_port_fault(fault.number(), fault_name(fault));
         } else if self.leaves_alone && self.is_ended() {
-            self.is_told = true;
-            self.teller().tell("session ended by the market");
+            self.is_reported = true;
+            self.link_log().log("session ended by the market");
         }
     }
 
@@ -119,7 +119,7 @@ impl<'a, C, K: DeskName, R: Wait + Clock + Eprint> PortLinks<'a, C, K, R> {
         }
         self.rejected = self.rejected.saturating_add(1);
         let seconds = pause_behind(letter, self.rejected);
-        self.teller().tell_of(&NextLogin { seconds });
+        self.link_log().log_of(&NextLogin { seconds });
         for _ in 0..seconds * LOOKS {
             if self.is_over.load(Ordering::SeqCst) {
                 return;
@@ -129,8 +129,8 @@ impl<'a, C, K: DeskName, R: Wait + Clock + Eprint> PortLinks<'a, C, K, R> {
     }
 
     /// Who tells of this port.
-    fn teller(&self) -> Teller<'a, R> {
-        Teller::new(self.rt, Whose::Port(usize::from(self.number)))
+    fn link_log(&self) -> LinkLog<'a, R> {
+        LinkLog::new(self.rt, Whose::Port(usize::from(self.number)))
     }
 }
 
@@ -152,7 +152,7 @@ impl<'a, C: Opener, K: DeskName, R: Wait + Clock + Eprint> Opener for PortLinks<
 
     ghost use Rattle.std.specs.Prelude.{◌≡◌, ◌⊎◌, true};
 
-    ghost has_ended = { λ t. C.has_ended t.opener ⊎ (t.is_told ≡ true) };
+    ghost has_ended = { λ t. C.has_ended t.opener ⊎ (t.is_reported ≡ true) };
 
     type Reader = C::Reader;
 
@@ -162,7 +162,7 @@ impl<'a, C: Opener, K: DeskName, R: Wait + Clock + Eprint> Opener for PortLinks<
 
     fn open(&mut self) -> Option<Result<Opened<C::Reader, C::Writer, C::Closer>, LinkFault>> {
         self.look();
-        if self.leaves_alone && self.is_told {
+        if self.leaves_alone && self.is_reported {
             return None;
         }
         if self.leaves_alone {

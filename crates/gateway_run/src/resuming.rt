@@ -2,12 +2,13 @@
 
 ghost use Rattle.std.specs.Prelude.{◌≡◌, length};
 
-use crate::day_journal::{DayJournal, JournalFile, NewFile, Syncs};
-use crate::fault::RunFault;
 use crate::sync_timer::SyncTimer;
-use desk_gates::{DeskName, Inlet, OpenLink, Outlet, Replayed, Shared};
-use gate_serving::Clock as _;
-use host_log::LaterSync;
+use desk::{Replayed, Shared};
+use desk_rings::{DeskName, Inlet, Outlet};
+use gate_journal::OpenLink;
+use gate_workers::Clock as _;
+use gateway_day::{DayJournal, JournalFile, NewFile, RunFault, Syncs};
+use journal_log::LaterSync;
 use link_sockets::SystemClock;
 use std::alloc::{AllocError, Global};
 use std::hash::RandomState;
@@ -55,7 +56,7 @@ fn begin<K: DeskName, R: Wait>(
     file: NewFile,
     syncs: Syncs,
 ) -> Result<Option<LaterSync>, RunFault> {
-    let NewFile { file } = file;
+    let file = file.into_file();
     let (file, later) = match syncs {
         Syncs::Each => (file, None),
         Syncs::Every(_) | Syncs::Never => {

@@ -2,15 +2,17 @@
 //! out; a client that asks for too much again is given up; it is told which bytes are no frame, why a client's Logon
 //! isn't answered, and what a market says of a login.
 
-use crate::telling::Teller;
-use desk_gates::{DeskName, Gate, Shared};
+use crate::context::Context;
+use crate::link_log::LinkLog;
+use desk::Shared;
+use desk_rings::DeskName;
+use desk_steps::Status;
 use fix_fields::Fields;
 use fix_session::LogonFault;
-use gate_events::{ClientNumber, Event, LinkOut};
-use link_limits::{Resends, Standstill, TooMuch, asked_for, range_of};
-use short_list::ShortList;
+use gate_events::{ClientNumber, Event, LinkOut, ShortList};
+use gateway_watch::{Resends, Standstill, TooMuch, asked_for, range_of};
+use link_io::Gate;
 use soup_packets::Packet;
-use status_board::Status;
 use std::alloc::{AllocError, Global};
 use std::fmt;
 use std::fmt::{Display, Formatter};
@@ -34,7 +36,7 @@ pub(crate) struct RunGate<'a, G, K: DeskName, R> {
     rt: &'a R,
     alloc: Global,
     shared: &'a Shared<K, RandomState>,
-    teller: Option<Teller<'a, R>>,
+    link_log: Option<LinkLog<'a, R>>,
     /// No frame of the link came yet.
     is_first: bool,
     /// Where the letter of a login that a market rejects is kept.
@@ -51,21 +53,19 @@ impl<'a, G, K: DeskName, R> RunGate<'a, G, K, R> {
     /// This gate to the desk, with who tells, where somebody does, and where the letter of a login that a market
     /// rejects is kept. Takes no memory.
     pub(crate) fn new(
-        rt: &'a R,
-        alloc: Global,
-        shared: &'a Shared<K, RandomState>,
+        context: &Context<'a, K, R>,
         gate: G,
-        teller: Option<Teller<'a, R>>,
+        link_log: Option<LinkLog<'a, R>>,
         letter: Option<&'a AtomicU8>,
     ) -> RunGate<'a, G, K, R>
         ensures { result.gate ≡ gate }
     {
         RunGate {
             gate,
-            rt,
-            alloc,
-            shared,
-            teller,
+            rt: context.rt,
+            alloc: context.alloc,
+            shared: context.shared,
+            link_log,
             is_first: true,
             letter,
             standstill: Standstill::new(),
@@ -140,8 +140,8 @@ impl<'a, G, K: DeskName, R: Wait + Clock + Eprint> RunGate<'a, G, K, R> {
         ensures { self.new.gate ≡ self.old.gate }
     {
         self.is_given_up = true;
-        if let Some(teller) = &self.teller {
-            teller.tell_of(too_much);
+        if let Some(link_log) = &self.link_log {
+            link_log.log_of(too_much);
         }
     }
 
@@ -170,9 +170,9 @@ impl<'a, G, K: DeskName, R: Wait + Clock + Eprint> RunGate<'a, G, K, R> {
             return;
         }
         self.is_first = false;
-        if let Some(teller) = &self.teller {
+        if let Some(link_log) = &self.link_log {
             if let Some(fault) = self.shared.logon_fault(self.rt, client, frame) {
-                teller.tell_of(&RefusedLogon { fault, frame });
+                link_log.log_of(&RefusedLogon { fault, frame });
             }
         }
     }
@@ -185,8 +185,8 @@ impl<'a, G, K: DeskName, R: Wait + Clock + Eprint> RunGate<'a, G, K, R> {
         if let (Some(kept), [letter, ..]) = (self.letter, packet.payload.as_slice()) {
             kept.store(*letter, Ordering::SeqCst);
         }
-        if let Some(teller) = &self.teller {
-            teller.tell_of(&RejectedLogin(packet));
+        if let Some(link_log) = &self.link_log {
+            link_log.log_of(&RejectedLogin(packet));
         }
     }
 }
@@ -234,8 +234,8 @@ impl<'a, G: Gate, K: DeskName, R: Wait + Clock + Eprint> Gate for RunGate<'a, G,
     }
 
     fn tell_skipped(&self, count: u64) {
-        if let Some(teller) = &self.teller {
-            teller.tell_skipped(count);
+        if let Some(link_log) = &self.link_log {
+            link_log.log_skipped(count);
         }
     }
 }

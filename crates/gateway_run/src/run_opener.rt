@@ -2,7 +2,8 @@
 
 ghost use Rattle.gateway_run.specs.Openers.{run_ended, run_opened};
 
-use gate_serving::{LinkEnd, LinkFault, Opened, Opener};
+use gate_serving::{LinkEnd, Opened, Opener};
+use link_io::LinkFault;
 
 /// Opens the links of a client, or of a port.
 #[derive(Drop)]

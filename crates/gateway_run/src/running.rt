@@ -2,27 +2,28 @@
 
 ghost use Rattle.std.specs.Prelude.{◌≡◌, ◌<◌, length, IfOk, None};
 ghost use Rattle.gate_law.specs.Holds.{Holds};
-ghost use Rattle.audit_lines.specs.gate_audit.gate_journal.Kept.{turns};
+ghost use Rattle.gate_lines.specs.gate_audit.gate_journal.Kept.{turns};
 ghost use Rattle.desk_gates.specs.desk.Ahead.{IsEnded};
 ghost use Rattle.desk_gates.specs.desk.Settling.{AreSettled};
 
-use crate::counted::{ClientCounts, CountedLinks, LinkStates};
-use crate::day::Day;
-use crate::day_journal::DayJournal;
+use crate::context::{Context, Layout};
+use crate::counted::{CountedLinks, LinkStates};
 use crate::ends::{Ends, LinkRules, RunPlan, ends_of};
-use crate::fault::RunFault;
-use crate::lines::{Count, Left, pens_of, ticks_of};
+use crate::lines::{Left, outlet_writers_of, ticks_of};
 use crate::order_watch::ports_of_clients;
 use crate::port_faults::PortLinks;
 use crate::resuming::go_on;
 use crate::sync_timer::SyncTimer;
-use audit_lines::Settings;
-use desk_gates::{
-    Closed, DeskName, Finished, Inlet, OutletEnd, OutletPen, Parts, Prompt, Shared, open_desk,
-};
+use desk::{Parts, Shared, open_desk};
+use desk_gates::{OutletEnd, OutletWriter};
+use desk_rings::{DeskName, Finished, Inlet};
+use desk_steps::Closed;
 use gate_serving::{Closer, Opener, serve};
-use host_log::LaterSync;
-use status_board::StatusBoard;
+use gate_settings::Settings;
+use gateway_day::{Day, DayJournal, RunFault};
+use gateway_watch::StatusBoard;
+use journal_log::LaterSync;
+use link_io::Prompt;
 use std::alloc::{AllocError, Global};
 use std::hash::RandomState;
 use std::io::Read;
@@ -87,16 +88,13 @@ where
     A::Closer: Closer + Send + Drop,
     C: Opener<Reader = A::Reader, Writer = A::Writer, Closer = A::Closer> + Send + Drop,
 {
-    let count = Count {
+    let layout = Layout {
         clients: settings.clients().len() as u16,
         ports: settings.ports().len() as u16,
+        ports_of: ports_of_clients(alloc, &settings)?,
     };
-    let ports_of = ports_of_clients(alloc, &settings)?;
     let parts = Parts::with_hasher(alloc, hasher, settings)?;
-    let ports_of = ports_of.as_slice();
-    run_desk::<Brand, R, A, C>(
-        rt, alloc, parts, journal, count, ports_of, plan, is_over, board,
-    )
+    run_desk::<Brand, R, A, C>(rt, alloc, parts, journal, &layout, plan, is_over, board)
 }
 
 /// Opens the desk of these parts, serves it and closes it.
@@ -105,8 +103,7 @@ fn run_desk<K, R, A, C>(
     alloc: Global,
     parts: Parts<RandomState>,
     journal: Option<DayJournal>,
-    count: Count,
-    ports_of: &[u16],
+    layout: &Layout,
     plan: RunPlan<A, C>,
     is_over: &AtomicBool,
     board: &StatusBoard,
@@ -122,26 +119,28 @@ where
     requires named { (parts.inlets ≡ K.inlets) × (parts.outlets ≡ K.outlets) }
     requires clock { 0 < length parts.inlets }
 {
-    let clients = plan.clients.len().min(usize::from(count.clients)) as u32;
+    let clients = plan.clients.len().min(usize::from(layout.clients)) as u32;
     let states = LinkStates::of(alloc, clients, plan.ports.len())?;
     let (shared, mut inlets, mut outlets) = open_desk::<K, RandomState>(alloc, parts)?;
     let syncs = go_on(rt, alloc, &shared, &mut inlets, &mut outlets, journal)?;
-    let pens = pens_of::<A::Writer, K, R>(rt, alloc, &shared, outlets, plan.rules.tells_frames)?;
-    let mut left = serve_desk(
+    let outlet_writers = outlet_writers_of::<A::Writer, K, R>(
         rt,
         alloc,
-        count,
-        ports_of,
         &shared,
-        &states,
-        inlets,
-        pens.as_slice(),
-        plan,
+        outlets,
+        plan.rules.logs_frames,
+    )?;
+    let context = Context {
+        rt,
+        alloc,
+        shared: &shared,
+        layout,
+        states: &states,
         is_over,
         board,
-        syncs,
-    )?;
-    left.end_outlets(pens)?;
+    };
+    let mut left = serve_desk(&context, inlets, outlet_writers.as_slice(), plan, syncs)?;
+    left.end_outlets(outlet_writers)?;
     let closed = close_desk(rt, alloc, shared, left.finished)?;
     Ok(Day::of(closed, left.fault))
 }
@@ -176,17 +175,10 @@ fn close_desk<K: DeskName, R: Clock>(
 /// Serves the ends of a desk, the last inlet being the clock's, until the clients' links have been served, and ends
 /// them. Time passes in the calling thread, which has the journal synced where that is left for later.
 fn serve_desk<'p, 'a, K, R, A, C, G>(
-    rt: &'a R,
-    alloc: Global,
-    count: Count,
-    ports_of: &'a [u16],
-    shared: &'a Shared<K, RandomState>,
-    states: &'a LinkStates,
+    context: &Context<'a, K, R>,
     inlets: Vec<Inlet<K>>,
-    pens: &'p [OutletPen<A::Writer, G>],
+    outlet_writers: &'p [OutletWriter<A::Writer, G>],
     plan: RunPlan<A, C>,
-    is_over: &'a AtomicBool,
-    board: &'a StatusBoard,
     syncs: Option<SyncTimer<LaterSync>>,
 ) -> Result<Left<K>, RunFault>
 where
@@ -200,7 +192,7 @@ where
     G: OutletEnd + Send + Drop,
     requires clock { 0 < length inlets.items }
 {
-    let mut left = Left::with_room(alloc, inlets.len(), pens.len())?;
+    let mut left = Left::with_room(context.alloc, inlets.len(), outlet_writers.len())?;
     let mut inlets = inlets;
     let Some(clock) = inlets.pop() else {
         unreachable!()
@@ -210,15 +202,12 @@ where
         ports,
         rules,
     } = plan;
-    let counts = &states.clients;
-    let clients = counted(alloc, clients, counts, is_over)?;
-    let ports = left_alone(rt, alloc, shared, ports, states, rules, is_over)?;
-    let ends = ends_of(rt, alloc, shared, inlets, pens, clients, ports, rules)?;
+    let clients = counted(context, clients)?;
+    let ports = left_alone(context, ports, rules)?;
+    let ends = ends_of(context, inlets, outlet_writers, clients, ports, rules)?;
     let Ends { lines, .. } = ends;
-    let ticks = ticks_of(
-        rt, alloc, shared, count, ports_of, counts, is_over, board, clock, pens, syncs,
-    );
-    match serve(rt, alloc, lines, ticks) {
+    let ticks = ticks_of(context, clock, outlet_writers, syncs);
+    match serve(context.rt, context.alloc, lines, ticks) {
         Ok((lines, ticks)) => {
             left.end_lines(lines)?;
             left.end_ticks(ticks)?;
@@ -229,44 +218,28 @@ where
 }
 
 /// The links of clients, counted.
-fn counted<'a, A: Drop>(
-    alloc: Global,
+fn counted<'a, A: Drop, K: DeskName, R>(
+    context: &Context<'a, K, R>,
     openers: Vec<A>,
-    counts: &'a ClientCounts,
-    is_over: &'a AtomicBool,
 ) -> Result<Vec<CountedLinks<'a, A>>, AllocError> {
-    let mut links = Vec::with_capacity(alloc, openers.len())?;
+    let counts = &context.states.clients;
+    let mut links = Vec::with_capacity(context.alloc, openers.len())?;
     for opener in openers {
-        links.push(CountedLinks::new(opener, counts, is_over))?;
+        links.push(CountedLinks::new(opener, counts, context.is_over))?;
     }
     Ok(links)
 }
 
 /// The links of ports, which are left alone where these rules say so.
 fn left_alone<'a, C: Drop, K: DeskName, R: Wait + Clock + Eprint>(
-    rt: &'a R,
-    alloc: Global,
-    shared: &'a Shared<K, RandomState>,
+    context: &Context<'a, K, R>,
     openers: Vec<C>,
-    states: &'a LinkStates,
     rules: LinkRules,
-    is_over: &'a AtomicBool,
 ) -> Result<Vec<PortLinks<'a, C, K, R>>, AllocError> {
-    let mut links = Vec::with_capacity(alloc, openers.len())?;
+    let mut links = Vec::with_capacity(context.alloc, openers.len())?;
     for opener in openers {
-        let letter = states.letters.get(links.len());
         let number = u16::try_from(links.len().saturating_add(1)).unwrap_or(u16::MAX);
-        let leaves_alone = rules.leaves_alone;
-        links.push(PortLinks::new(
-            rt,
-            alloc,
-            shared,
-            number,
-            opener,
-            leaves_alone,
-            letter,
-            is_over,
-        ))?;
+        links.push(PortLinks::new(context, number, opener, rules.leaves_alone))?;
     }
     Ok(links)
 }

@@ -2,7 +2,7 @@
 
 ghost use Rattle.std.specs.Prelude.{◌≡◌, ◌+◌, ◌<◌, ◌≤◌, true, false};
 
-use host_log::LaterFile;
+use journal_log::LaterFile;
 
 /// Has a journal's file synced each so many milliseconds.
 #[derive(Drop)]

@@ -1,6 +1,6 @@
 //! Listeners, all of them before anything is connected.
 
-use gateway_control::Rules;
+use control_guard::Rules;
 use operator_settings::ControlSettings;
 use std::alloc::{AllocError, Global};
 use std::net::{Net, TcpListener, TcpStream};

@@ -15,11 +15,6 @@ mod standing;
 mod waiting_room;
 
 pub use binding::{Bound, bind_all};
-pub use gateway_control::{DayControl, Told, tell_end};
-pub use gateway_run::{Day, RunFault};
-pub use open_orders::tell_open_orders;
-pub use operator_settings::{
-    ControlSettings, DaySettings, OperatorFault, OperatorSettings, read_operator,
-};
+pub use open_orders::write_open_orders;
 pub use pacing::pause_after;
 pub use serving::serve_day;

@@ -4,9 +4,9 @@ ghost use Rattle.std.specs.Prelude.{◌≡◌, IfOk, map, string_bytes};
 ghost use Rattle.gateway_serve.specs.Names as spec;
 
 use crate::ending::{end_of, now};
-use gateway_control::DayNames;
 use gateway_run::Settings;
 use operator_settings::DaySettings;
+use status_page::DayNames;
 use std::alloc::{AllocError, Global};
 use std::time::Clock;
 

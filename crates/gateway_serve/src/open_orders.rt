@@ -15,7 +15,7 @@ use std::io::Write;
 /// the market hasn't answered, and last how many there are of either; nothing where there are none.
 ///
 /// The answer says whether all of it was told. Where memory runs out it isn't, and `faults` has `out of memory`.
-pub fn tell_open_orders<F: Write>(
+pub fn write_open_orders<F: Write>(
     alloc: Global,
     pairs: &[OrderPair],
     settings: &Settings,

@@ -4,8 +4,9 @@ ghost use Rattle.std.specs.Prelude.{◌≡◌, true};
 
 use crate::day_flags::DayFlags;
 use crate::pacing::{between_lines, pause_after, soon};
-use gate_serving::{LinkEnd, LinkFault, Opened, Opener};
-use gateway_run::Teller;
+use gate_serving::{LinkEnd, Opened, Opener};
+use gateway_run::LinkLog;
+use link_io::LinkFault;
 use link_sockets::{SocketCloser, SocketReader, SocketWriter, connected, link_of};
 use std::fmt::{Display, Formatter};
 use std::io::ErrorKind;
@@ -28,7 +29,7 @@ fn look() -> Duration {
 pub(crate) struct ServedPort<'a, R> {
     rt: &'a R,
     address: &'a str,
-    teller: Teller<'a, R>,
+    link_log: LinkLog<'a, R>,
     flags: &'a DayFlags,
     opened: u64,
     is_closed: bool,
@@ -38,8 +39,8 @@ pub(crate) struct ServedPort<'a, R> {
     tries: u32,
     /// Since when the link is up.
     since: Option<Instant>,
-    /// The reason that was told last, and when.
-    told: Option<(ErrorKind, Instant)>,
+    /// The reason that was reported last, and when.
+    reported: Option<(ErrorKind, Instant)>,
 }
 
 impl<'a, R: Clock + Eprint> ServedPort<'a, R> {
@@ -47,20 +48,20 @@ impl<'a, R: Clock + Eprint> ServedPort<'a, R> {
     pub(crate) fn new(
         rt: &'a R,
         address: &'a str,
-        teller: Teller<'a, R>,
+        link_log: LinkLog<'a, R>,
         flags: &'a DayFlags,
     ) -> ServedPort<'a, R> {
         ServedPort {
             rt,
             address,
-            teller,
+            link_log,
             flags,
             opened: 0,
             is_closed: false,
             is_again: false,
             tries: 0,
             since: None,
-            told: None,
+            reported: None,
         }
     }
 
@@ -79,28 +80,28 @@ impl<'a, R: Clock + Eprint> ServedPort<'a, R> {
         }
     }
 
-    /// Tells why the port can't be connected, unless that was told just now.
-    fn tell_refused(&mut self, error: &io::Error)
+    /// Tells why the port can't be connected, unless that was reported just now.
+    fn log_refused(&mut self, error: &io::Error)
         ensures same { (self.new.opened ≡ self.old.opened) × (self.new.is_closed ≡ self.old.is_closed) }
     {
         let kind = error.kind();
-        if self.is_told(kind) {
+        if self.is_reported(kind) {
             return;
         }
-        self.told = match Instant::now(self.rt) {
+        self.reported = match Instant::now(self.rt) {
             Ok(now) => Some((kind, now)),
             Err(_) => None,
         };
-        self.teller.tell_of(&Unreachable {
+        self.link_log.log_of(&Unreachable {
             address: self.address,
             error,
             seconds: pause_after(self.tries),
         });
     }
 
-    /// Whether this reason was told just now.
-    fn is_told(&self, kind: ErrorKind) -> bool {
-        match &self.told {
+    /// Whether this reason was reported just now.
+    fn is_reported(&self, kind: ErrorKind) -> bool {
+        match &self.reported {
             Some((last, since)) => {
                 *last == kind
                     && match since.elapsed(self.rt) {
@@ -180,13 +181,13 @@ impl<'a, R: Net<Listener = TcpListener, Stream = TcpStream> + Clock + Eprint> Op
             Ok(link) => {
                 self.opened += 1;
                 self.since = Instant::now(self.rt).ok();
-                self.told = None;
-                self.teller.tell_of(&UpAt(self.address));
+                self.reported = None;
+                self.link_log.log_of(&UpAt(self.address));
                 Some(Ok(link))
             }
             Err(error) => {
                 self.tries = self.tries.saturating_add(1);
-                self.tell_refused(&error);
+                self.log_refused(&error);
                 Some(Err(LinkFault::ReadFailed))
             }
         }
@@ -198,6 +199,6 @@ impl<'a, R: Net<Listener = TcpListener, Stream = TcpStream> + Clock + Eprint> Op
         } else {
             self.tries.saturating_add(1)
         };
-        self.teller.tell_end(&end);
+        self.link_log.log_end(&end);
     }
 }

@@ -6,9 +6,10 @@ use crate::ending::end_in_time;
 use crate::naming::names_of;
 use crate::served_port::ServedPort;
 use crate::waiting_room::WaitingRoom;
-use gateway_control::{DayControl, Endpoint, Rules, serve_endpoint};
+use control_guard::Rules;
+use gateway_control::{DayControl, Endpoint, serve_endpoint};
 use gateway_run::{
-    Day, DayJournal, LinkRules, RunFault, RunPlan, SettingsFile, Teller, Whose, run_shown,
+    Day, DayJournal, LinkLog, LinkRules, RunFault, RunPlan, SettingsFile, Whose, run_shown,
 };
 use operator_settings::{AddressRange, DaySettings, OperatorSettings};
 use std::alloc::{AllocError, Global};
@@ -182,7 +183,7 @@ fn plan_of<'a, R: Clock + Eprint>(
         clients,
         ports,
         rules: LinkRules {
-            tells_frames: true,
+            logs_frames: true,
             leaves_alone: true,
         },
     })
@@ -219,12 +220,12 @@ fn room_of<'a, R: Clock + Eprint>(
         Some(ranges) => ranges.as_slice(),
         None => &[],
     };
-    let teller = Teller::new(rt, Whose::Client(at.saturating_add(1)));
+    let link_log = LinkLog::new(rt, Whose::Client(at.saturating_add(1)));
     let ends = match asked.link(at) {
         Some(flag) => flag,
         None => flags.clients(),
     };
-    WaitingRoom::new(rt, alloc, listener, ranges, teller, flags, ends)
+    WaitingRoom::new(rt, alloc, listener, ranges, link_log, flags, ends)
 }
 
 /// The links of ports, by their addresses, in their order.
@@ -236,8 +237,8 @@ fn ports_of<'a, R: Clock + Eprint>(
 ) -> Result<Vec<ServedPort<'a, R>>, AllocError> {
     let mut ports = Vec::with_capacity(alloc, addresses.len())?;
     for address in addresses {
-        let teller = Teller::new(rt, Whose::Port(ports.len().saturating_add(1)));
-        ports.push(ServedPort::new(rt, address.as_str(), teller, flags))?;
+        let link_log = LinkLog::new(rt, Whose::Port(ports.len().saturating_add(1)));
+        ports.push(ServedPort::new(rt, address.as_str(), link_log, flags))?;
     }
     Ok(ports)
 }

@@ -3,8 +3,9 @@
 ghost use Rattle.std.specs.Prelude.{◌≡◌, true};
 
 use crate::day_flags::DayFlags;
-use gate_serving::{LinkEnd, LinkFault, Opened, Opener};
-use gateway_run::Teller;
+use gate_serving::{LinkEnd, Opened, Opener};
+use gateway_run::LinkLog;
+use link_io::LinkFault;
 use link_sockets::{SocketCloser, SocketReader, SocketWriter, link_of};
 use operator_settings::{AddressRange, admit};
 use std::alloc::Global;
@@ -55,7 +56,7 @@ pub(crate) struct WaitingRoom<'a, R> {
     rt: &'a R,
     listener: TcpListener,
     from: &'a [AddressRange],
-    teller: Teller<'a, R>,
+    link_log: LinkLog<'a, R>,
     flags: &'a DayFlags,
     /// Whether the link that is open is to end.
     ends: &'a AtomicBool,
@@ -75,7 +76,7 @@ impl<'a, R: Clock + Eprint> WaitingRoom<'a, R> {
         alloc: Global,
         listener: TcpListener,
         from: &'a [AddressRange],
-        teller: Teller<'a, R>,
+        link_log: LinkLog<'a, R>,
         flags: &'a DayFlags,
         ends: &'a AtomicBool,
     ) -> WaitingRoom<'a, R> {
@@ -84,7 +85,7 @@ impl<'a, R: Clock + Eprint> WaitingRoom<'a, R> {
             rt,
             listener,
             from,
-            teller,
+            link_log,
             flags,
             ends,
             silent: Vec::new(alloc),
@@ -104,7 +105,7 @@ impl<'a, R: Clock + Eprint> WaitingRoom<'a, R> {
             let (stream, peer) = match self.listener.accept() {
                 Ok(taken) => taken,
                 Err(error) => {
-                    self.tell_refusal(&error);
+                    self.log_refusal(&error);
                     return;
                 }
             };
@@ -119,16 +120,16 @@ impl<'a, R: Clock + Eprint> WaitingRoom<'a, R> {
 
     /// Tells why nobody can be taken though somebody has connected: descriptors are used up, say. It is told once,
     /// until somebody is taken again.
-    fn tell_refusal(&mut self, error: &Error)
+    fn log_refusal(&mut self, error: &Error)
         ensures same { self.new.opened ≡ self.old.opened }
     {
-        let is_told = match error.kind() {
+        let is_reported = match error.kind() {
             ErrorKind::WouldBlock | ErrorKind::Interrupted | ErrorKind::ConnectionAborted => true,
             _ => self.is_refused,
         };
-        if !is_told {
+        if !is_reported {
             self.is_refused = true;
-            self.teller.tell_of(&NotTaken { error });
+            self.link_log.log_of(&NotTaken { error });
         }
     }
 
@@ -195,10 +196,10 @@ impl<'a, R: Clock + Eprint> WaitingRoom<'a, R> {
     }
 
     /// Tells that a link is up, from where, and who connected in vain before.
-    fn tell_up(&mut self, peer: SocketAddr)
+    fn log_up(&mut self, peer: SocketAddr)
         ensures same { self.new.opened ≡ self.old.opened }
     {
-        self.teller.tell_of(&UpFrom {
+        self.link_log.log_of(&UpFrom {
             peer,
             in_vain: self.in_vain,
             foreign: self.foreign,
@@ -305,7 +306,7 @@ impl<'a, R: Net<Listener = TcpListener, Stream = TcpStream> + Clock + Eprint> Op
         match link_with(self.rt, silent, self.ends) {
             Some(link) => {
                 self.opened += 1;
-                self.tell_up(peer);
+                self.log_up(peer);
                 Some(Ok(link))
             }
             None => Some(Err(LinkFault::ReadFailed)),
@@ -313,6 +314,6 @@ impl<'a, R: Net<Listener = TcpListener, Stream = TcpStream> + Clock + Eprint> Op
     }
 
     fn ended(&mut self, end: LinkEnd) {
-        self.teller.tell_end(&end);
+        self.link_log.log_end(&end);
     }
 }

@@ -7,7 +7,7 @@ use Rattle.gate_lines.specs.gate_law.Holds.{Holds}
 use Rattle.gate_audit.specs.declared.day_audit.DayAudit.{DayAudit}
 use Rattle.gate_audit.specs.Auditing.{IsAuditing}
 use Rattle.gate_audit.specs.Pairs.{accepted_pairs, pairs}
-use Rattle.gate_lines.specs.audit_lines.Lines.{shown_audit}
+use Rattle.gate_lines.specs.AuditLines.{shown_audit}
 use Rattle.journal_file.specs.declared.ending.Ending.{Ending}
 use Rattle.journal_file.specs.declared.ending.Ending.TheVariants.{Over}
 use Rattle.journal_file.specs.declared.fault.FileFault.{FileFault}

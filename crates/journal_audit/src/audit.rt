@@ -6,15 +6,17 @@ ghost use Rattle.gate_lines.specs.gate_law.Events.{History};
 ghost use Rattle.gate_lines.specs.gate_law.Holds.{Holds};
 ghost use Rattle.gate_audit.specs.Auditing.{IsAuditing};
 ghost use Rattle.gate_audit.specs.Pairs.{accepted_pairs, pairs};
-ghost use Rattle.gate_lines.specs.audit_lines.Lines.{shown_audit};
+ghost use Rattle.gate_lines.specs.AuditLines.{shown_audit};
 ghost use Rattle.journal_file.specs.declared.ending.Ending.TheVariants.{Over};
 ghost use Rattle.journal_audit.specs.Audits.{IsAuditOfFile, IsNotOver, NamesAPage};
 ghost use Rattle.journal_file.specs.Inputs.{IsJudged, IsReadTo};
 
 use crate::read_day::{ReadDay, Unread, read_day};
-use gate_audit::{DayAudit, ReadingFault, Settings};
+use gate_audit::DayAudit;
 use gate_lines::write_audit;
+use gate_settings::Settings;
 use journal_file::{Ending, ReadFault};
+use order_accounts::ReadingFault;
 use std::alloc::Global;
 use std::io::{Read, Write};
 

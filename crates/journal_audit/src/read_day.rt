@@ -8,9 +8,11 @@ ghost use Rattle.gate_audit.specs.gate_journal.Kept.{turns_onto};
 ghost use Rattle.journal_audit.specs.Audits.{Audits, IsUnread};
 ghost use Rattle.journal_file.specs.Inputs.{IsReadTo};
 
-use gate_audit::{DayAudit, ReadingFault, Settings};
+use gate_audit::DayAudit;
 use gate_journal::TurnPages;
+use gate_settings::Settings;
 use journal_file::{DayReader, Ending, NextTurns, ReadFault};
+use order_accounts::ReadingFault;
 use std::alloc::Global;
 use std::io::{Error, ErrorKind, Read};
 

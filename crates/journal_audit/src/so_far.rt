@@ -7,7 +7,7 @@ ghost use Rattle.journal_file.specs.Inputs.{IsJudged, IsReadTo};
 
 use crate::audit::{tell_ending, tell_unread, write_day_audit};
 use crate::read_day::{ReadDay, read_day};
-use gate_audit::Settings;
+use gate_settings::Settings;
 use std::alloc::Global;
 use std::io::{Read, Write};
 

@@ -4,3 +4,4 @@ pub mod Places
 pub mod Leading
 mod Counting
 mod Judged
+mod Sides

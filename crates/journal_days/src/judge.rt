@@ -6,8 +6,7 @@ ghost use Rattle.journal_days.specs.Day.{day_fault, version_of};
 
 use crate::day::{has_no_batch, judge_in_day, page_behind};
 use crate::numbers::number_behind;
-use journal_pages::{PageFault, Place, Version};
-use noted_bytes::NotedPages;
+use journal_pages::{NotedPages, PageFault, Place, Version};
 use std::marker::Model;
 
 /// The first pages of a day, judged one behind another; others may come behind them. Contracts see the pages. Takes no

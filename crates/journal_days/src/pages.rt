@@ -353,6 +353,7 @@ fn page_of(
 }
 
 /// One record more in a page.
+#[inline(always)]
 fn append_text(
     page: &mut Vec<u8>,
     head: &RecordHead,

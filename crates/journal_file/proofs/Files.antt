@@ -77,16 +77,16 @@ pub record HasRead (form : Version) (file : List ℕ) (pages : Vec (Vec ℕ Glob
   pub begun : begun_fault (version_of judged) judged ≡ None
 
 module _ (form : Version) (pages : Vec (Vec ℕ Global) Global) (file rest : List ℕ) (judged : List (List ℕ)) (is : form ≡ form_of file) (has : HasRead form file pages judged rest) where
-  abbrev told : List (List ℕ)
-  told = texts pages.items
+  abbrev yielded : List (List ℕ)
+  yielded = texts pages.items
 
-  parts : file ≡ sized_pages (form_of file) told ++ rest
-  parts = has.same ∙ ap (λ (v : Version). sized_pages v told ++ rest) is
+  parts : file ≡ sized_pages (form_of file) yielded ++ rest
+  parts = has.same ∙ ap (λ (v : Version). sized_pages v yielded ++ rest) is
 
-  begun : begun_fault (version_of told) told ≡ None
+  begun : begun_fault (version_of yielded) yielded ≡ None
   begun = ap (λ (ps : List (List ℕ)). begun_fault (version_of ps) ps) (sym has.taken) ∙ has.begun
 
-  counted : min (length judged) 4_294_967_295 ≡ min (length told) 4_294_967_295
+  counted : min (length judged) 4_294_967_295 ≡ min (length yielded) 4_294_967_295
   counted = ap (λ (ps : List (List ℕ)). min (length ps) 4_294_967_295) has.taken
 
   day-of : (others : Vec (Vec ℕ Global) Global) → others ≡ pages → day_fault (version_of judged) judged ≡ None
@@ -98,7 +98,7 @@ module _ (form : Version) (pages : Vec (Vec ℕ Global) Global) (file rest : Lis
   inside : (n : ℕ) (fault : FileFault) → IsOpenAt judged n fault → IsBehindLast (form_of file) rest
       → EndsInBatch n fault file
   inside n fault at behind = record {
-    pages = told;
+    pages = yielded;
     rest = rest;
     same = parts;
     full = has.full;
@@ -116,11 +116,11 @@ module _ (form : Version) (pages : Vec (Vec ℕ Global) Global) (file rest : Lis
       → IsNoFile file n (whys.Page fault)
   wrong-page page behind n fault first some why =
       inr (inl (record {
-        pages = told ++ page ∷ [];
+        pages = yielded ++ page ∷ [];
         rest = behind;
-        same = read-more form file rest behind told (told ++ page ∷ []) page has.same first refl
-            ∙ ap (λ (v : Version). sized_pages v (told ++ page ∷ []) ++ behind) is;
-        full = full-more told page has.full (some-bytes (length page) some);
+        same = read-more form file rest behind yielded (yielded ++ page ∷ []) page has.same first refl
+            ∙ ap (λ (v : Version). sized_pages v (yielded ++ page ∷ []) ++ behind) is;
+        full = full-more yielded page has.full (some-bytes (length page) some);
         page_fault = fault;
         why = ap (λ (ps : List (List ℕ)). begun_fault (version_of (ps ++ page ∷ [])) (ps ++ page ∷ [])) (sym has.taken)
             ∙ why;
@@ -157,12 +157,12 @@ module _ (form : Version) (pages : Vec (Vec ℕ Global) Global) (file rest : Lis
   whole-file (Err f) behind page first end (inr e) =
       inr (inl (inr (
         record {
-          pages = told;
+          pages = yielded;
           rest = behind;
-          same = has.same ∙ ap (λ (t : List ℕ). sized_pages form told ++ t)
+          same = has.same ∙ ap (λ (t : List ℕ). sized_pages form yielded ++ t)
               (first ∙ ap (λ (p : List ℕ). sized_page form p ++ behind) (empty-page page end))
-              ∙ sym (append_assoc (sized_pages form told) (sized_page form []) behind)
-              ∙ ap (λ (v : Version). file_of v told ++ behind) is;
+              ∙ sym (append_assoc (sized_pages form yielded) (sized_page form []) behind)
+              ∙ ap (λ (v : Version). file_of v yielded ++ behind) is;
           full = has.full;
           day = day-of pages refl e.3;
           more = e.2;
@@ -192,7 +192,7 @@ module _ (form : Version) (pages : Vec (Vec ℕ Global) Global) (file rest : Lis
       inr (inr (inr (inside f.0 f.1 at.0 (inr (ap (λ (v : Version). is_unfinished v rest) (sym is) ∙ at.1)))))
   unfinished-file (Err f) fault why (inr e) =
       inr (inl (inl (record {
-        pages = told;
+        pages = yielded;
         rest = rest;
         same = parts;
         full = has.full;

@@ -203,19 +203,19 @@ behind-version a p q front two = sym (ap version_of front.1) ∙ two
 pub reads-in-front : (file : List ℕ) (day : Kept) (ending : Ending) → length file < 2 ^ 64 → Says file day ending
     → ReadsInFront file day
 reads-in-front file day ending few says [] more good same = (day.pages, refl)
-reads-in-front file day ending few says (a ∷ told) more good same =
-    let form : form_of file ≡ Two = ap form_of same ∙ front-form a told more good in
+reads-in-front file day ending few says (a ∷ yielded) more good same =
+    let form : form_of file ≡ Two = ap form_of same ∙ front-form a yielded more good in
     let written : file ≡ sized_pages Two says.pages ++ says.parted.rest = says.parted.same
     ∙ ap (λ (v : Version). sized_pages v says.pages ++ says.parted.rest) form in
     let end : EndsBy Two says.parted.rest ending =
     subst (λ (v : Version). EndsBy v says.parted.rest ending) form says.parted.end in
-    let front : IsPrefix (a ∷ told) says.pages =
-    pages-in-front Two (a ∷ told) says.pages more says.parted.rest (day-full (a ∷ told) good) says.parted.full
-    (along file (sized_pages Two (a ∷ told) ++ more) same few) (no-page-by Two says.parted.rest ending end)
+    let front : IsPrefix (a ∷ yielded) says.pages =
+    pages-in-front Two (a ∷ yielded) says.pages more says.parted.rest (day-full (a ∷ yielded) good) says.parted.full
+    (along file (sized_pages Two (a ∷ yielded) ++ more) same few) (no-page-by Two says.parted.rest ending end)
     (sym same ∙ written) in
     let kept : day.pages ≡ says.pages = keeps-them says.pages day says.read
-    (behind-version a told says.pages front (two-named (a ∷ told) good)) in
-    subst (λ (ps : List (List ℕ)). IsPrefix (a ∷ told) ps) (sym kept) front
+    (behind-version a yielded says.pages front (two-named (a ∷ yielded) good)) in
+    subst (λ (ps : List (List ℕ)). IsPrefix (a ∷ yielded) ps) (sym kept) front
 
 nothing-else-two : (file : List ℕ) (day : Kept) (ending : Ending) → Says file day ending
     → (written : List (List ℕ)) (more : List ℕ) → day_fault Two written ≡ None

@@ -109,32 +109,32 @@ pages-once form (a ∷ p) (b ∷ q) x y pf qf few nx ny e =
     )
 
 -- pages that stand in front are the first of those that do
-pub pages-in-front : (form : Version) (told q : List (List ℕ)) (more y : List ℕ) → AreNotEmpty told → AreNotEmpty q
-    → length (sized_pages form told ++ more) < 2 ^ 64
-    → NoPage form y → sized_pages form told ++ more ≡ sized_pages form q ++ y → IsPrefix told q
+pub pages-in-front : (form : Version) (yielded q : List (List ℕ)) (more y : List ℕ) → AreNotEmpty yielded → AreNotEmpty q
+    → length (sized_pages form yielded ++ more) < 2 ^ 64
+    → NoPage form y → sized_pages form yielded ++ more ≡ sized_pages form q ++ y → IsPrefix yielded q
 pages-in-front form [] q more y tf qf few ny e = (q, refl)
-pages-in-front form (a ∷ told) [] more y tf qf few ny e =
-    let ahead : y ≡ sized_page form a ++ (sized_pages form told ++ more) = sym e ∙ ahead-of form a told more in
-    absurd (ny a (sized_pages form told ++ more) ahead tf.0
-    (few-front form a (sized_pages form told ++ more) y ahead
-    (along (sized_pages form (a ∷ told) ++ more) y e few)))
-pages-in-front form (a ∷ told) (b ∷ q) more y tf qf few ny e =
-    let left : List ℕ = sized_pages form told ++ more in
+pages-in-front form (a ∷ yielded) [] more y tf qf few ny e =
+    let ahead : y ≡ sized_page form a ++ (sized_pages form yielded ++ more) = sym e ∙ ahead-of form a yielded more in
+    absurd (ny a (sized_pages form yielded ++ more) ahead tf.0
+    (few-front form a (sized_pages form yielded ++ more) y ahead
+    (along (sized_pages form (a ∷ yielded) ++ more) y e few)))
+pages-in-front form (a ∷ yielded) (b ∷ q) more y tf qf few ny e =
+    let left : List ℕ = sized_pages form yielded ++ more in
     let right : List ℕ = sized_pages form q ++ y in
-    let both : sized_page form a ++ left ≡ sized_page form b ++ right = sym (ahead-of form a told more) ∙ e
+    let both : sized_page form a ++ left ≡ sized_page form b ++ right = sym (ahead-of form a yielded more) ∙ e
     ∙ ahead-of form b q y in
     let size : length a ≡ length b =
-    same-size form a b left right (few-front form a left (sized_pages form (a ∷ told) ++ more)
-    (ahead-of form a told more) few)
+    same-size form a b left right (few-front form a left (sized_pages form (a ∷ yielded) ++ more)
+    (ahead-of form a yielded more) few)
     (few-front form b right (sized_pages form (b ∷ q) ++ y) (ahead-of form b q y)
-    (along (sized_pages form (a ∷ told) ++ more) (sized_pages form (b ∷ q) ++ y) e few)) both in
+    (along (sized_pages form (a ∷ yielded) ++ more) (sized_pages form (b ∷ q) ++ y) e few)) both in
     let rest : a ++ left ≡ b ++ right = behind-size form a b left right both in
-    let later : IsPrefix told q =
-    pages-in-front form told q more y tf.1 qf.1
-    (few-behind form a left (sized_pages form (a ∷ told) ++ more) (ahead-of form a told more) few) ny
+    let later : IsPrefix yielded q =
+    pages-in-front form yielded q more y tf.1 qf.1
+    (few-behind form a left (sized_pages form (a ∷ yielded) ++ more) (ahead-of form a yielded more) few) ny
     (same-behind a b left right size rest) in (
       later.0,
-      ap (λ (t : List ℕ). t ∷ (told ++ later.0)) (same-front a b left right size rest)
+      ap (λ (t : List ℕ). t ∷ (yielded ++ later.0)) (same-front a b left right size rest)
           ∙ ap (λ (ps : List (List ℕ)). b ∷ ps) later.1,
     )
 

@@ -90,24 +90,24 @@ version-two (page ∷ ps) rest is =
 
 -- ---- page by page
 
-module _ (read left : List ℕ) (taken held told : List (List ℕ)) (in-pages : IsInPages read left taken held told) where
+module _ (read left : List ℕ) (taken held yielded : List (List ℕ)) (in-pages : IsInPages read left taken held yielded) where
   named-by : (ps : List (List ℕ)) (rest : List ℕ) → read ≡ sized_pages Two ps ++ rest → version_of ps ≡ Two
   named-by ps rest same = version-two ps rest (ap (stands_at 16 (page_name Two)) (sym same) ∙ in-pages.named)
 
-  day-two : day_fault (version_of taken) taken ≡ None → day_fault Two (told ++ held) ≡ None
+  day-two : day_fault (version_of taken) taken ≡ None → day_fault Two (yielded ++ held) ≡ None
   day-two day =
-      ap (λ (v : Version). day_fault v (told ++ held)) (sym (named-by taken left in-pages.same))
+      ap (λ (v : Version). day_fault v (yielded ++ held)) (sym (named-by taken left in-pages.same))
       ∙ ap (λ (ps : List (List ℕ)). day_fault (version_of taken) ps) (sym in-pages.parts) ∙ day
 
   -- pages that are given
-  pub given : day_fault (version_of taken) taken ≡ None → GoOnBy told (kept_in held) (told ++ held)
-  given day = go-on told held in-pages.day (day-two day)
+  pub given : day_fault (version_of taken) taken ≡ None → GoOnBy yielded (kept_in held) (yielded ++ held)
+  given day = go-on yielded held in-pages.day (day-two day)
 
-  pub gave : day_fault (version_of taken) taken ≡ None → IsInPages read left taken [] (told ++ held)
+  pub gave : day_fault (version_of taken) taken ≡ None → IsInPages read left taken [] (yielded ++ held)
   gave day = record {
     same = in-pages.same;
     full = in-pages.full;
-    parts = in-pages.parts ∙ sym (append-nil (told ++ held));
+    parts = in-pages.parts ∙ sym (append-nil (yielded ++ held));
     begun = in-pages.begun;
     named = in-pages.named;
     day = day-two day;
@@ -116,18 +116,18 @@ module _ (read left : List ℕ) (taken held told : List (List ℕ)) (in-pages : 
   -- a page that is taken
   pub took : (page behind : List ℕ) → left ≡ sized_page Two page ++ behind → 1 ≤ length page
       → begun_fault (version_of (taken ++ page ∷ [])) (taken ++ page ∷ []) ≡ None
-      → IsInPages read behind (taken ++ page ∷ []) (held ++ page ∷ []) told
+      → IsInPages read behind (taken ++ page ∷ []) (held ++ page ∷ []) yielded
   took page behind front some none = record {
     same = read-more Two read left behind taken (taken ++ page ∷ []) page in-pages.same front refl;
     full = full-more taken page in-pages.full some;
-    parts = ap (λ (ps : List (List ℕ)). ps ++ page ∷ []) in-pages.parts ∙ append_assoc told held (page ∷ []);
+    parts = ap (λ (ps : List (List ℕ)). ps ++ page ∷ []) in-pages.parts ∙ append_assoc yielded held (page ∷ []);
     begun = none;
     named = in-pages.named;
     day = in-pages.day;
   }
 
   -- more that is read
-  pub grew : (piece : List ℕ) → IsInPages (read ++ piece) (left ++ piece) taken held told
+  pub grew : (piece : List ℕ) → IsInPages (read ++ piece) (left ++ piece) taken held yielded
   grew piece = record {
     same = ap (λ (t : List ℕ). t ++ piece) in-pages.same ∙ append_assoc (sized_pages Two taken) left piece;
     full = in-pages.full;
@@ -212,30 +212,30 @@ module _ (read left : List ℕ) (taken held told : List (List ℕ)) (in-pages : 
   -- ---- how it ends
 
   told-all : day_fault (version_of taken) taken ≡ None → (day_fault (version_of taken) taken ≡ None → held ≡ [])
-      → taken ≡ told
-  told-all day whole = in-pages.parts ∙ ap (λ (ps : List (List ℕ)). told ++ ps) (whole day) ∙ append-nil told
+      → taken ≡ yielded
+  told-all day whole = in-pages.parts ∙ ap (λ (ps : List (List ℕ)). yielded ++ ps) (whole day) ∙ append-nil yielded
 
   pub says : (ending : Ending) → day_fault (version_of taken) taken ≡ None
       → (day_fault (version_of taken) taken ≡ None → held ≡ []) → EndsBy Two left ending
-      → Says read (kept_in told) ending
+      → Says read (kept_in yielded) ending
   says ending day whole end =
-      let all : taken ≡ told = told-all day whole in
+      let all : taken ≡ yielded = told-all day whole in
       let form : form_of read ≡ Two = named-two read in-pages.named in
-      let version : version_of told ≡ Two = ap version_of (sym all) ∙ named-by taken left in-pages.same in
+      let version : version_of yielded ≡ Two = ap version_of (sym all) ∙ named-by taken left in-pages.same in
       record {
-        pages = told;
+        pages = yielded;
         parted = record {
           rest = left;
           same = in-pages.same ∙ ap (λ (ps : List (List ℕ)). sized_pages Two ps ++ left) all
-              ∙ ap (λ (v : Version). sized_pages v told ++ left) (sym form);
+              ∙ ap (λ (v : Version). sized_pages v yielded ++ left) (sym form);
           full = subst AreNotEmpty all in-pages.full;
           end = subst (λ (v : Version). EndsBy v left ending) (sym form) end;
         };
         read = record {
-          day = ap (λ (v : Version). day_fault v told) version ∙ in-pages.day;
-          same = ap (λ (v : Version). kept_in (kept_as v told)) (sym version);
-          records = ap (λ (v : Version). day_records Two (kept_as v told)) version
-              ∙ ap (λ (v : Version). day_records v told) (sym version);
+          day = ap (λ (v : Version). day_fault v yielded) version ∙ in-pages.day;
+          same = ap (λ (v : Version). kept_in (kept_as v yielded)) (sym version);
+          records = ap (λ (v : Version). day_records Two (kept_as v yielded)) version
+              ∙ ap (λ (v : Version). day_records v yielded) (sym version);
         };
       }
 
@@ -335,9 +335,9 @@ sum-stays bytes more e =
 
 -- ---- along equations
 
-pub in-mode : (m : Mode) (read left : List ℕ) (taken held told : List (List ℕ)) → m ≡ Pages
-    → IsReading m read left taken held told → IsInPages read left taken held told
-in-mode m read left taken held told e is = subst (λ (x : Mode). IsReading x read left taken held told) e is
+pub in-mode : (m : Mode) (read left : List ℕ) (taken held yielded : List (List ℕ)) → m ≡ Pages
+    → IsReading m read left taken held yielded → IsInPages read left taken held yielded
+in-mode m read left taken held yielded e is = subst (λ (x : Mode). IsReading x read left taken held yielded) e is
 
 pub whole-along : (a b : List (List ℕ)) → a ≡ b → day_fault (version_of b) b ≡ None → day_fault (version_of a) a ≡ None
 whole-along a b e day = ap (λ (ps : List (List ℕ)). day_fault (version_of ps) ps) e ∙ day
@@ -347,9 +347,9 @@ go-along a b c d p q ea ep ec goes =
     subst (λ (x : List (List ℕ)). GoOnBy x q d) ea
     (subst (λ (x : Kept). GoOnBy a x d) ep (subst (λ (x : List (List ℕ)). GoOnBy a p x) ec goes))
 
-pub pages-along : (read r left l : List ℕ) (taken t held h told o : List (List ℕ)) → read ≡ r → left ≡ l → taken ≡ t
-    → held ≡ h → told ≡ o → IsInPages read left taken held told → IsInPages r l t h o
-pages-along read r left l taken t held h told o er el et eh eo is =
+pub pages-along : (read r left l : List ℕ) (taken t held h yielded o : List (List ℕ)) → read ≡ r → left ≡ l → taken ≡ t
+    → held ≡ h → yielded ≡ o → IsInPages read left taken held yielded → IsInPages r l t h o
+pages-along read r left l taken t held h yielded o er el et eh eo is =
     subst (λ (x : List ℕ). IsInPages x l t h o) er
     (subst (λ (x : List ℕ). IsInPages read x t h o) el
     (subst (λ (x : List (List ℕ)). IsInPages read left x h o) et
@@ -358,12 +358,12 @@ pages-along read r left l taken t held h told o er el et eh eo is =
 
 -- ---- what steps answer
 
-pub seen-pages : (r : Reading) (m : Mode) (read left : List ℕ) (taken held told : List (List ℕ))
-    → record { mode = m; read = read; left = left; taken = taken; held = held; told = told } ≡ r → r.mode ≡ Pages
-    → IsReading m read left taken held told → IsInPages r.read r.left r.taken r.held r.told
-seen-pages r m read left taken held told e pages is =
-    subst (λ (x : Reading). x.mode ≡ Pages → IsInPages x.read x.left x.taken x.held x.told) e
-    (λ (p : m ≡ Pages). in-mode m read left taken held told p is) pages
+pub seen-pages : (r : Reading) (m : Mode) (read left : List ℕ) (taken held yielded : List (List ℕ))
+    → record { mode = m; read = read; left = left; taken = taken; held = held; yielded = yielded } ≡ r → r.mode ≡ Pages
+    → IsReading m read left taken held yielded → IsInPages r.read r.left r.taken r.held r.yielded
+seen-pages r m read left taken held yielded e pages is =
+    subst (λ (x : Reading). x.mode ≡ Pages → IsInPages x.read x.left x.taken x.held x.yielded) e
+    (λ (p : m ≡ Pages). in-mode m read left taken held yielded p is) pages
 
 none-read : (known : Option (List ℕ)) (bytes : List ℕ) → ReadsOn known known bytes bytes
 none-read known bytes = ([], Consumes-nil known, sym (append-nil bytes))
@@ -391,14 +391,14 @@ pub failed : (known later : Option (List ℕ)) (old new : Reading) (fault : Read
     → HasFailed known later old new fault → Advances known later old new (Err fault)
 failed known later old new fault is = record {
   read = kept-read known later old new is.0 is.1;
-  comes = (ap (λ (r : Reading). r.told) is.0, ended later new.read fault is.2);
+  comes = (ap (λ (r : Reading). r.yielded) is.0, ended later new.read fault is.2);
 }
 
 pub grown : (known later : Option (List ℕ)) (old new : Reading) → GrewBy known later old new
     → Advances known later old new (Ok None)
 grown known later old new is = record {
   read = (is.piece, is.consumed, ap (λ (r : Reading). r.read) is.grown);
-  comes = ap (λ (r : Reading). r.told) is.grown;
+  comes = ap (λ (r : Reading). r.yielded) is.grown;
 }
 
 -- a refusal before anything was read
@@ -411,15 +411,15 @@ pub refused-end : (known later : Option (List ℕ)) (old new : Reading) (fault :
     → Consumes known later [] → IsAtEnd later → IsNoFileBy new.read fault → Advances known later old new (Err fault)
 refused-end known later old new fault same none end why = record {
   read = end-read known later old new same none;
-  comes = (ap (λ (r : Reading). r.told) same, inr (end, why));
+  comes = (ap (λ (r : Reading). r.yielded) same, inr (end, why));
 }
 
 pub ends : (known later : Option (List ℕ)) (old new : Reading) (ending : Ending) → new ≡ old
-    → Consumes known later [] → IsAtEnd later → Says new.read (kept_in new.told) ending
+    → Consumes known later [] → IsAtEnd later → Says new.read (kept_in new.yielded) ending
     → Advances known later old new (Ok (Some (End ending)))
 ends known later old new ending same none end says = record {
   read = end-read known later old new same none;
-  comes = (says, ap (λ (r : Reading). r.told) same, end);
+  comes = (says, ap (λ (r : Reading). r.yielded) same, end);
 }
 
 -- a fault of a page, as a reader tells it
@@ -481,12 +481,12 @@ behind-long left behind e =
     let parts = length-append (sized_page Two []) behind in
     omega (arith, all, parts)
 
-pub over-says : (r : Reading) (behind : List ℕ) → IsInPages r.read r.left r.taken r.held r.told
+pub over-says : (r : Reading) (behind : List ℕ) → IsInPages r.read r.left r.taken r.held r.yielded
     → r.left ≡ sized_page Two [] ++ behind → length r.left ≤ 16 → day_fault (version_of r.taken) r.taken ≡ None
-    → (day_fault (version_of r.taken) r.taken ≡ None → r.held ≡ []) → Says r.read (kept_in r.told) Over
+    → (day_fault (version_of r.taken) r.taken ≡ None → r.held ≡ []) → Says r.read (kept_in r.yielded) Over
 over-says r behind is front few day whole =
     let all = behind-long r.left behind front in
-    says r.read r.left r.taken r.held r.told is Over day whole
+    says r.read r.left r.taken r.held r.yielded is Over day whole
     (front ∙ ap (λ (b : List ℕ). sized_page Two [] ++ b) (no-bytes behind (omega (arith, all, few)))
     ∙ append-nil (sized_page Two []))
 
@@ -495,38 +495,38 @@ grows-still m e = subst GrowsStill (sym e) tt
 
 -- ---- more that is read
 
-grow-mode : (m : Mode) (read left : List ℕ) (taken held told : List (List ℕ)) (piece : List ℕ) → GrowsStill m
-    → IsReading m read left taken held told → IsReading m (read ++ piece) (left ++ piece) taken held told
-grow-mode Unseen read left taken held told piece still is = record {
+grow-mode : (m : Mode) (read left : List ℕ) (taken held yielded : List (List ℕ)) (piece : List ℕ) → GrowsStill m
+    → IsReading m read left taken held yielded → IsReading m (read ++ piece) (left ++ piece) taken held yielded
+grow-mode Unseen read left taken held yielded piece still is = record {
   same = ap (λ (t : List ℕ). t ++ piece) is.same;
   none_taken = is.none_taken;
   none_held = is.none_held;
-  none_told = is.none_told;
+  none_yielded = is.none_yielded;
 }
-grow-mode Pages read left taken held told piece still is = grew read left taken held told is piece
-grow-mode (Whole ending) read left taken held told piece still is = absurd still
-grow-mode Grown read left taken held told piece still is = tt
+grow-mode Pages read left taken held yielded piece still is = grew read left taken held yielded is piece
+grow-mode (Whole ending) read left taken held yielded piece still is = absurd still
+grow-mode Grown read left taken held yielded piece still is = tt
 
-pub read-keeps : (m : Mode) (known later : Option (List ℕ)) (old new : Bytes) (taken held told : List (List ℕ))
+pub read-keeps : (m : Mode) (known later : Option (List ℕ)) (old new : Bytes) (taken held yielded : List (List ℕ))
     (r : Result Bool ReadFault) → GrowsStill m
     → MatchResult r (λ more. HasGrown known later old new more)
     (λ fault. (new ≡ old) × Keeps known later × IsEnded fault)
-    → IsReading m old.read old.left taken held told → IsReading m new.read new.left taken held told
-read-keeps m known later old new taken held told (Ok more) still has is =
-    subst (λ (t : List ℕ). IsReading m t new.left taken held told) (sym has.read)
-    (subst (λ (t : List ℕ). IsReading m (old.read ++ has.piece) t taken held told) (sym has.left)
-    (grow-mode m old.read old.left taken held told has.piece still is))
-read-keeps m known later old new taken held told (Err fault) still has is =
-    subst (λ (b : Bytes). IsReading m b.read b.left taken held told) (sym has.0) is
+    → IsReading m old.read old.left taken held yielded → IsReading m new.read new.left taken held yielded
+read-keeps m known later old new taken held yielded (Ok more) still has is =
+    subst (λ (t : List ℕ). IsReading m t new.left taken held yielded) (sym has.read)
+    (subst (λ (t : List ℕ). IsReading m (old.read ++ has.piece) t taken held yielded) (sym has.left)
+    (grow-mode m old.read old.left taken held yielded has.piece still is))
+read-keeps m known later old new taken held yielded (Err fault) still has is =
+    subst (λ (b : Bytes). IsReading m b.read b.left taken held yielded) (sym has.0) is
 
 -- ---- a file that was read whole
 
-pub seen-unseen : (r : Reading) (m : Mode) (read left : List ℕ) (taken held told : List (List ℕ))
-    → record { mode = m; read = read; left = left; taken = taken; held = held; told = told } ≡ r → r.mode ≡ Unseen
-    → IsReading m read left taken held told → IsUnseen r.read r.left r.taken r.held r.told
-seen-unseen r m read left taken held told e unseen is =
-    subst (λ (x : Reading). x.mode ≡ Unseen → IsUnseen x.read x.left x.taken x.held x.told) e
-    (λ (p : m ≡ Unseen). subst (λ (x : Mode). IsReading x read left taken held told) p is) unseen
+pub seen-unseen : (r : Reading) (m : Mode) (read left : List ℕ) (taken held yielded : List (List ℕ))
+    → record { mode = m; read = read; left = left; taken = taken; held = held; yielded = yielded } ≡ r → r.mode ≡ Unseen
+    → IsReading m read left taken held yielded → IsUnseen r.read r.left r.taken r.held r.yielded
+seen-unseen r m read left taken held yielded e unseen is =
+    subst (λ (x : Reading). x.mode ≡ Unseen → IsUnseen x.read x.left x.taken x.held x.yielded) e
+    (λ (p : m ≡ Unseen). subst (λ (x : Mode). IsReading x read left taken held yielded) p is) unseen
 
 pub whole-given : (before after : List (List ℕ)) (part : Kept) → before ≡ [] → part ≡ kept_in part.pages
     → after ≡ before ++ part.pages → day_fault Two part.pages ≡ None → GoOnBy before part after

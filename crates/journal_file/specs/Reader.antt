@@ -27,34 +27,34 @@ pub record Reading : Type 0 where
   pub left : List ℕ
   pub taken : List (List ℕ)
   pub held : List (List ℕ)
-  pub told : List (List ℕ)
+  pub yielded : List (List ℕ)
 
 abbrev pub nothing_begun : Reading
-nothing_begun = record { mode = Unseen; read = []; left = []; taken = []; held = []; told = [] }
+nothing_begun = record { mode = Unseen; read = []; left = []; taken = []; held = []; yielded = [] }
 
 -- ---- what a reader keeps
 
 -- Page by page: the pages that were taken and the bytes that are left are what was read; a day begins with them, and
 -- those that were given are one.
-pub record IsInPages (read left : List ℕ) (taken held told : List (List ℕ)) : Type 0 where
+pub record IsInPages (read left : List ℕ) (taken held yielded : List (List ℕ)) : Type 0 where
   pub same : read ≡ sized_pages Two taken ++ left
   pub full : AreNotEmpty taken
-  pub parts : taken ≡ told ++ held
+  pub parts : taken ≡ yielded ++ held
   pub begun : begun_fault (version_of taken) taken ≡ None
   pub named : stands_at 16 (page_name Two) read ≡ true
-  pub day : day_fault Two told ≡ None
+  pub day : day_fault Two yielded ≡ None
 
-pub record IsUnseen (read left : List ℕ) (taken held told : List (List ℕ)) : Type 0 where
+pub record IsUnseen (read left : List ℕ) (taken held yielded : List (List ℕ)) : Type 0 where
   pub same : read ≡ left
   pub none_taken : taken ≡ []
   pub none_held : held ≡ []
-  pub none_told : told ≡ []
+  pub none_yielded : yielded ≡ []
 
 abbrev pub IsReading : Mode → List ℕ → List ℕ → List (List ℕ) → List (List ℕ) → List (List ℕ) → Type 0
-IsReading Unseen read left taken held told = IsUnseen read left taken held told
-IsReading Pages read left taken held told = IsInPages read left taken held told
-IsReading (Whole ending) read left taken held told = Says read (kept_in told) ending
-IsReading Grown read left taken held told = Unit {0}
+IsReading Unseen read left taken held yielded = IsUnseen read left taken held yielded
+IsReading Pages read left taken held yielded = IsInPages read left taken held yielded
+IsReading (Whole ending) read left taken held yielded = Says read (kept_in yielded) ending
+IsReading Grown read left taken held yielded = Unit {0}
 
 -- ---- what a call does
 
@@ -64,8 +64,9 @@ ReadsOn known later before after = (piece : List ℕ) × Consumes known later pi
 
 -- turns more, behind those before; or the end of the file, of which all was read
 abbrev pub IsGiven : Option (List ℕ) → List (List ℕ) → Reading → NextTurns → Type 0
-IsGiven left told now (Turns part) = GoOnBy told part now.told
-IsGiven left told now (End ending) = Says now.read (kept_in now.told) ending × (now.told ≡ told) × IsAtEnd left
+IsGiven left yielded now (Turns part) = GoOnBy yielded part now.yielded
+IsGiven left yielded now (End ending) =
+    Says now.read (kept_in now.yielded) ending × (now.yielded ≡ yielded) × IsAtEnd left
 
 -- what was read is no file, for this page and reason
 abbrev pub IsNoFileBy : List ℕ → ReadFault → Type 0
@@ -82,15 +83,15 @@ abbrev pub IsRefused : Option (List ℕ) → List ℕ → ReadFault → Type 0
 IsRefused left read fault = IsNoneBy read fault ⊎ (IsAtEnd left × IsNoFileBy read fault)
 
 abbrev pub Comes : Option (List ℕ) → List (List ℕ) → Reading → Result (Option NextTurns) ReadFault → Type 0
-Comes left told now (Ok None) = now.told ≡ told
-Comes left told now (Ok (Some next)) = IsGiven left told now next
-Comes left told now (Err fault) = (now.told ≡ told) × IsRefused left now.read fault
+Comes left yielded now (Ok None) = now.yielded ≡ yielded
+Comes left yielded now (Ok (Some next)) = IsGiven left yielded now next
+Comes left yielded now (Err fault) = (now.yielded ≡ yielded) × IsRefused left now.read fault
 
 -- a step: bytes more were read, and nothing was given, or what comes next, or the file is refused
 pub record Advances (known later : Option (List ℕ)) (old new : Reading) (result : Result (Option NextTurns) ReadFault)
     : Type 0 where
   pub read : ReadsOn known later old.read new.read
-  pub comes : Comes later old.told new result
+  pub comes : Comes later old.yielded new result
 
 -- ---- one page
 

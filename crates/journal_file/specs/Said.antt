@@ -36,8 +36,8 @@ pub record Says (file : List ℕ) (day : Kept) (ending : Ending) : Type 0 where
 
 -- Of these pages, written in front of a file, each is read, and nothing before them.
 abbrev pub ReadsInFront : List ℕ → Kept → Type 0
-ReadsInFront file day = (told : List (List ℕ)) (more : List ℕ) → day_fault Two told ≡ None
-    → file ≡ sized_pages Two told ++ more → IsPrefix told day.pages
+ReadsInFront file day = (yielded : List (List ℕ)) (more : List ℕ) → day_fault Two yielded ≡ None
+    → file ≡ sized_pages Two yielded ++ more → IsPrefix yielded day.pages
 
 -- Of the beginning of a file that was written with these pages, nothing else is read.
 abbrev pub ReadsNothingElse : List ℕ → Kept → Type 0

@@ -20,7 +20,6 @@ mod writing;
 
 pub use ending::Ending;
 pub use fault::FileFault;
-pub use journal_pages::PageFault;
 pub use laws::{files_are_one, files_are_read};
 pub use read_fault::ReadFault;
 pub use reader::{DayReader, NextTurns};

@@ -24,10 +24,9 @@ use crate::fault::FileFault;
 use crate::read_fault::{ReadFault, wrong_page};
 use crate::reading::{DayFile, TORN_LIMIT, first_of_sum, has_at, is_unfinished, read_file};
 use crate::window::Window;
-use gate_journal::{TurnPages, Version};
+use gate_journal::TurnPages;
 use journal_days::DayJudge;
-use journal_pages::PageFault;
-use noted_bytes::{Noted, NotedPages};
+use journal_pages::{Noted, NotedPages, PageFault, Version};
 use std::alloc::Global;
 use std::io::{Error, ErrorKind, Read};
 use std::marker::Model;
@@ -68,7 +67,7 @@ pub struct DayReader {
     judge: DayJudge,
     /// Those of them that weren't given: a batch is open behind them.
     held: Vec<Vec<u8>>,
-    told: NotedPages,
+    yielded: NotedPages,
 }
 
 impl Model for DayReader {
@@ -83,10 +82,11 @@ impl Model for DayReader {
       left = d.window.left;
       taken = d.judge;
       held = texts d.held.items;
-      told = d.told.pages;
+      yielded = d.yielded.pages;
     } };
 
-    ghost invariant = { λ d. IsReading d.mode d.window.read d.window.left d.judge (texts d.held.items) d.told.pages };
+    ghost invariant = { λ d. IsReading d.mode d.window.read d.window.left d.judge (texts d.held.items)
+        d.yielded.pages };
 }
 
 impl DayReader {
@@ -99,7 +99,7 @@ impl DayReader {
             window: Window::new(alloc),
             judge: DayJudge::new(),
             held: Vec::new(alloc),
-            told: NotedPages::new(),
+            yielded: NotedPages::new(),
         }
     }
 
@@ -130,8 +130,8 @@ impl DayReader {
     /// stopped.
     pub fn next<R: Read>(&mut self, alloc: Global, input: &mut R) -> Result<NextTurns, ReadFault>
         ensures read { ReadsOn (R.remaining input.old) (R.remaining input.new) self.old.read self.new.read }
-        ensures given { IfOk result (λ next. IsGiven (R.remaining input.new) self.old.told self.new next) }
-        ensures refused { IfErr result (λ fault. (self.new.told ≡ self.old.told)
+        ensures given { IfOk result (λ next. IsGiven (R.remaining input.new) self.old.yielded self.new next) }
+        ensures refused { IfErr result (λ fault. (self.new.yielded ≡ self.old.yielded)
             × IsRefused (R.remaining input.new) self.new.read fault) }
     {
         for _ in 0..MOST_STEPS {
@@ -190,15 +190,16 @@ impl DayReader {
     fn begin_whole(&mut self, alloc: Global) -> Result<TurnPages, ReadFault>
         requires { self.old.mode ≡ Mode.Unseen }
         ensures read { self.new.read ≡ self.old.read }
-        ensures given { IfOk result (λ part. GoOnBy self.old.told part self.new.told) }
-        ensures refused { IfErr result (λ fault. (self.new.told ≡ self.old.told) × IsNoFileBy self.new.read fault) }
+        ensures given { IfOk result (λ part. GoOnBy self.old.yielded part self.new.yielded) }
+        ensures refused { IfErr result (λ fault. (self.new.yielded ≡ self.old.yielded)
+            × IsNoFileBy self.new.read fault) }
     {
         let DayFile { day, ending } = match read_file(alloc, self.window.left()) {
             Ok(read) => read,
             Err((number, fault)) => return Err(refusal(number, fault)),
         };
         let part = day.into_pages();
-        note_pages(&mut self.told, part.pages());
+        note_pages(&mut self.yielded, part.pages());
         self.mode = Mode::Whole(ending);
         Ok(part)
     }
@@ -263,10 +264,10 @@ impl DayReader {
         requires pages { self.old.mode ≡ Pages }
         requires whole { day_fault (version_of self.old.taken) self.old.taken ≡ None }
         ensures read { self.new.read ≡ self.old.read }
-        ensures given { GoOnBy self.old.told result self.new.told }
+        ensures given { GoOnBy self.old.yielded result self.new.yielded }
     {
         let held = mem::replace(&mut self.held, Vec::new(alloc));
-        note_pages(&mut self.told, held.as_slice());
+        note_pages(&mut self.yielded, held.as_slice());
         TurnPages::of(held)
     }
 
@@ -276,7 +277,7 @@ impl DayReader {
         requires front { StandsInFront size self.old.left }
         requires some { 1 ≤ size }
         ensures read { self.new.read ≡ self.old.read }
-        ensures told { self.new.told ≡ self.old.told }
+        ensures yielded { self.new.yielded ≡ self.old.yielded }
         ensures refused { IfErr result (λ fault. IsNoneBy self.new.read fault) }
     {
         let (_, text) = self.window.left().split_at(16);
@@ -344,7 +345,7 @@ impl DayReader {
         requires pages { self.now.mode ≡ Pages }
         requires front { front_fault Two self.now.left ≡ Some fault }
         requires whole { AreNotWhole self.now.taken self.now.held }
-        ensures { MatchResult result (λ ending. Says self.now.read (kept_in self.now.told) ending)
+        ensures { MatchResult result (λ ending. Says self.now.read (kept_in self.now.yielded) ending)
             (λ fault. IsNoFileBy self.now.read fault) }
     {
         let left = self.window.left();
@@ -372,11 +373,11 @@ fn refusal(number: u32, fault: FileFault) -> ReadFault
 }
 
 /// Notes pages behind others. It does nothing when it runs.
-fn note_pages(told: &mut NotedPages, pages: &[Vec<u8>])
-    ensures { told.new.pages ≡ told.old.pages ++ texts pages.now }
+fn note_pages(noted: &mut NotedPages, pages: &[Vec<u8>])
+    ensures { noted.new.pages ≡ noted.old.pages ++ texts pages.now }
 {
     for page in pages {
-        told.note(page.as_slice());
+        noted.note(page.as_slice());
     }
 }
 

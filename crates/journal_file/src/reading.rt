@@ -19,9 +19,9 @@ ghost use Rattle.journal_file.specs.declared.fault.FileFault.TheVariants as faul
 use crate::ending::Ending;
 use crate::fault::FileFault;
 use crate::sum::sum_of;
-use gate_journal::{History, Version};
+use gate_journal::History;
 use journal_days::DayJudge;
-use journal_pages::PageFault;
+use journal_pages::{PageFault, Version};
 use std::alloc::{AllocError, Global};
 
 /// What a write that was cut short leaves has fewer bytes than this: 64 MiB.

@@ -5,7 +5,7 @@ ghost use Rattle.journal_file.specs.File.{sized_page};
 ghost use Rattle.journal_pages.specs.declared.version.Version.TheVariants.{Two};
 
 use crate::sum::sum_of;
-use noted_bytes::Noted;
+use journal_pages::Noted;
 use std::marker::Model;
 
 /// The bytes of pages as a file has them, each behind its length and its sum: contracts see them; in memory is how many

@@ -8,7 +8,7 @@ ghost use Rattle.std.specs.Io.KnownBytes.{Consumes, IsAtEnd, Keeps};
 ghost use Rattle.journal_file.specs.Window.{Bytes, HasGrown, IsEnded, Puts, nothing_read};
 
 use crate::read_fault::ReadFault;
-use noted_bytes::Noted;
+use journal_pages::Noted;
 use std::alloc::Global;
 use std::io::{Error, ErrorKind, Read};
 use std::marker::Model;

@@ -11,7 +11,7 @@ ghost use Rattle.journal_file.specs.Written.{IsFileOfTurns};
 use crate::sum::sum_of;
 use gate_journal::History;
 use std::io::Write;
-use text_lines::StreamFault;
+use wire_streams::StreamFault;
 
 /// Writes a history to `output` as a day's file: each page behind its length and its sum, and the end; then the output
 /// is flushed. Takes no memory of its own.

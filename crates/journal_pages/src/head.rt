@@ -53,6 +53,7 @@ impl RecordHead {
 }
 
 /// Appends three pieces: all of them, or nothing where memory runs out. One growth at most.
+#[inline(always)]
 fn append_pieces(
     out: &mut Vec<u8>,
     head: &[u8],
@@ -72,6 +73,7 @@ fn append_pieces(
 
 /// Appends a piece for which there is room. Most records have one piece or none behind their head: what is empty isn't
 /// copied.
+#[inline(always)]
 fn put_piece(out: &mut Vec<u8>, piece: &[u8])
     requires room { vec_len out.old + length piece.now ≤ vec_capacity out.old }
     ensures items { out.new.items ≡ out.old.items ++ piece.now }

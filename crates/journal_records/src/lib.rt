@@ -16,7 +16,6 @@ mod turns;
 
 pub use days::{batches_of, events_of};
 pub use events::append_event;
-pub use journal_days::{DayPages, DayRecords, Version, judge_day};
 pub use laws::{
     read_batches_are_written, read_events_are_written, turns_are_read, turns_are_whole,
     written_batches_are_read, written_events_are_read,

@@ -9,11 +9,13 @@ ghost use Rattle.journal_records.specs.Events.{event_in, payload_fields, payload
 ghost use Rattle.journal_records.specs.Reading.{batch_in, behind_parts, first_part};
 
 use crate::parts::{BatchParts, is_part};
+use fix_fields::FieldsView;
 use gate_events::{Batch, ClientFrame, ClientNumber, Event, PortNumber};
 use journal_days::DayRecords;
-use journal_pages::{FieldsView, RecordKind, RecordView, WholeWire};
+use journal_pages::{RecordKind, RecordView};
 use soup_packets::Packet;
 use std::alloc::{AllocError, Global};
+use wire_law::WholeWire;
 
 /// The event that a record says; `None` for a record that is part of a batch. Two growths at most.
 pub fn event_of(alloc: Global, record: &RecordView<'_>) -> Result<Option<Event>, AllocError>

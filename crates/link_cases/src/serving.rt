@@ -8,8 +8,8 @@ mod lines;
 use crate::links::Kept;
 use clocks::show_clock;
 use gate_events::{PortNumber, Recipient};
-use gate_serving::{Line, LinkEnd, PenWorker, Ticks, Worker, WriterEnd, serve};
-use gate_workers::Pen;
+use gate_serving::{Line, LinkEnd, Ticks, Worker, WriterWorker, serve};
+use gate_workers::{SharedWriter, WriterEnd};
 use lines::{Sleeping, StreamLinks, Takes};
 use link_io::LinkFault;
 use seeded_choices::Chance;
@@ -22,12 +22,12 @@ use std::time;
 /// Two heartbeats.
 const STREAM: &[u8; 6] = b"\x00\x01H\x00\x01H";
 
-type PortPen = Pen<Takes, Kept>;
+type PortWriter = SharedWriter<Takes, Kept>;
 
 type PortLine<'p, 'a, R> = Line<
     StreamLinks<'a>,
     Worker<Kept, Sleeping<'a, R>>,
-    PenWorker<'p, Takes, Kept, Sleeping<'a, R>>,
+    WriterWorker<'p, Takes, Kept, Sleeping<'a, R>>,
 >;
 
 /// No ticks, as `serve` wants them.
@@ -54,8 +54,8 @@ fn show_three_links<R: Threads + Wait + time::Clock + Sync>(
     let shut = AtomicU64::new(0);
     let mut gate = new_gate(alloc);
     gate.lay_close(1)?;
-    let pen = Pen::new(gate);
-    serve_three(rt, alloc, &shut, &pen, shown)?;
+    let shared_writer = SharedWriter::new(gate);
+    serve_three(rt, alloc, &shut, &shared_writer, shown)?;
     show(alloc, "shut down", shut.load(Ordering::SeqCst), shown)
 }
 
@@ -66,12 +66,12 @@ fn new_gate(alloc: Global) -> Kept
     Kept::new(alloc, Chance::of(0, 0), usize::MAX)
 }
 
-/// The port's line over this pen, that keeps ends where these are.
+/// The port's line over this shared writer, that keeps ends where these are.
 fn line_of<'p, 'a, R: time::Clock>(
     rt: &'a R,
     alloc: Global,
     shut: &'a AtomicU64,
-    pen: &'p PortPen,
+    shared_writer: &'p PortWriter,
     ends: Vec<LinkEnd>,
 ) -> PortLine<'p, 'a, R> {
     Line {
@@ -89,7 +89,7 @@ fn line_of<'p, 'a, R: time::Clock>(
             gate: new_gate(alloc),
             clock: Sleeping { rt, moment: 0 },
         },
-        writer: PenWorker::new(pen, Sleeping { rt, moment: 0 }),
+        writer: WriterWorker::new(shared_writer, Sleeping { rt, moment: 0 }),
     }
 }
 
@@ -98,10 +98,16 @@ fn serve_three<'p, 'a, R: Threads + Wait + time::Clock + Sync>(
     rt: &'a R,
     alloc: Global,
     shut: &'a AtomicU64,
-    pen: &'p PortPen,
+    shared_writer: &'p PortWriter,
     shown: &mut Vec<u8>,
 ) -> Result<(), AllocError> {
-    let line = line_of(rt, alloc, shut, pen, Vec::with_capacity(alloc, 3)?);
+    let line = line_of(
+        rt,
+        alloc,
+        shut,
+        shared_writer,
+        Vec::with_capacity(alloc, 3)?,
+    );
     let none: NoTicks<'a, R> = None;
     match serve(rt, alloc, vec![in alloc; line]?, none) {
         Ok((lines, _)) => show_lines(alloc, lines.as_slice(), shown),

@@ -1,7 +1,7 @@
 -- The next packet of a port's link, and the events of its packets.
 use Rattle.std.proofs.Common.{◌≡◌, ℕ, ◌<◌, ◌++◌, List, [], ◌∷◌, length, Some, Ok, refl, sym, subst}
 use Rattle.gate_law.specs.Events.{Event, PortPacket}
-use Rattle.soup_packets.specs.stream_buffer.Buffer.{BytesHeld}
+use Rattle.soup_packets.specs.wire_streams.Buffer.{BytesHeld}
 use Rattle.soup_packets.specs.declared.packet.Packet.{Packet}
 use Rattle.link_io.specs.Decoding.{BringPackets, PacketsOfLink, MadeOfPackets, NextPacket}
 

@@ -147,14 +147,14 @@ pub refills_more : (a b c : WriterState) (x y z : List (List LinkOut)) → Refil
     → b.is_closing ≡ false → TakesList true b c y z
     → Refills a c x z
 refills_more a b c x y z p none free (outs, takes, is) =
-    let told : unwritten c ≡ unwritten b ++ link_bytes a.link outs =
+    let grown : unwritten c ≡ unwritten b ++ link_bytes a.link outs =
     ap unwritten is ∙ (ap (λ (n : ℕ). b.bytes ++ link_bytes n outs) p.link
     ∙ ap (λ (l : List ℕ). l ++ link_bytes a.link outs)
     (sym (ap (λ (h : List LinkOut). b.bytes ++ link_bytes b.link h) none ∙ append-nil b.bytes))) in
     record {
       taken = p.taken ++ outs ∷ [];
       takes = takes ∙ (ap (λ (l : List (List LinkOut)). l ++ outs ∷ []) p.takes ∙ append_assoc x p.taken (outs ∷ []));
-      whole = told ∙ (ap (λ (l : List ℕ). l ++ link_bytes a.link outs) p.whole
+      whole = grown ∙ (ap (λ (l : List ℕ). l ++ link_bytes a.link outs) p.whole
           ∙ (append_assoc (unwritten a) (lists_bytes a.link p.taken) (link_bytes a.link outs)
           ∙ ap (λ (l : List ℕ). unwritten a ++ l) (ap (λ (l : List ℕ). lists_bytes a.link p.taken ++ l)
           (sym (append-nil (link_bytes a.link outs)))

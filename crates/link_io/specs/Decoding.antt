@@ -4,7 +4,7 @@ use Rattle.std.specs.Prelude.{◌∷◌, length, Option, Some, None, Result, Ok,
 use Rattle.gate_law.specs.Events.{Event, ClientMessage, PortPacket}
 use Rattle.fix_framing.specs.fix_fields.Field.{Message, fields_text}
 use Rattle.fix_framing.specs.Stream.{ReaderStanding, Passed, End, Rest, Over, parts, left, longest}
-use Rattle.soup_packets.specs.stream_buffer.Buffer.{BytesHeld}
+use Rattle.soup_packets.specs.wire_streams.Buffer.{BytesHeld}
 use Rattle.soup_packets.specs.declared.packet.Packet.{Packet}
 use Rattle.soup_packets.specs.Stream.{Fed, ArePackets, EndsEmpty}
 use Rattle.link_io.specs.declared.link_fault.LinkFault.{LinkFault}

@@ -12,12 +12,12 @@ use Rattle.link_io.specs.declared.link_fault.LinkFault.TheVariants.{NoMemory}
 use Rattle.link_io.specs.declared.writer.Wrote.{Wrote}
 
 -- the bytes that a link is told to be written, one after another
-abbrev pub bytes_told : ℕ → LinkOut → List ℕ
-bytes_told link (Write other bytes) = if other == link then bytes else []
-bytes_told link (Close other) = []
+abbrev pub bytes_of_output : ℕ → LinkOut → List ℕ
+bytes_of_output link (Write other bytes) = if other == link then bytes else []
+bytes_of_output link (Close other) = []
 
 abbrev pub link_bytes : ℕ → List LinkOut → List ℕ
-link_bytes link outs = flat_map (bytes_told link) outs
+link_bytes link outs = flat_map (bytes_of_output link) outs
 
 -- the same of several lists
 abbrev pub lists_bytes : ℕ → List (List LinkOut) → List ℕ

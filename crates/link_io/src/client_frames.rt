@@ -7,7 +7,8 @@ ghost use Rattle.link_io.specs.Decoding.{NextFrame};
 
 use crate::decoder::Decoder;
 use crate::link_fault::LinkFault;
-use fix_framing::{Fields, FrameFault, Framer};
+use fix_fields::Fields;
+use fix_framing::{FrameFault, Framer};
 use gate_events::{ClientFrame, ClientNumber, Event};
 use std::alloc::{AllocError, Global};
 use std::marker::Model;

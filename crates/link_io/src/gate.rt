@@ -1,7 +1,6 @@
 //! The core as a link's engine sees it: a place to put events, and a source of output.
 
-use gate_events::{Event, LinkOut};
-use short_list::ShortList;
+use gate_events::{Event, LinkOut, ShortList};
 use std::alloc::{AllocError, Global};
 use std::sync::Wait;
 

@@ -1,7 +1,7 @@
 //! Which written frames the core's handle is to hear of, so that they are logged.
 
 use crate::gate::Gate;
-use fix_framing::SOH;
+use fix_fields::SOH;
 use gate_events::LinkOut;
 
 /// The size of `8=FIX.4.4` and of `9=` with one digit of BodyLength (9), behind which further ones and MsgType (35)

@@ -7,7 +7,7 @@ ghost use Rattle.std.specs.Io.KnownBytes.{WriteAppends};
 ghost use Rattle.gate_events.specs.Seen.{link_out_seen};
 ghost use Rattle.link_io.specs.Limits.{refusal, limit_after};
 ghost use Rattle.link_io.specs.Answered.{FailedWrite, TriesOnce};
-ghost use Rattle.link_io.specs.Writing.{bytes_told, unwritten, HasSent, Joins, TakesList, Refills, Sends};
+ghost use Rattle.link_io.specs.Writing.{bytes_of_output, unwritten, HasSent, Joins, TakesList, Refills, Sends};
 ghost use Rattle.link_io.specs.Writing.{Writes, WritesOnce};
 ghost use Rattle.link_io.specs.declared.link_fault.LinkFault.{LinkFault as Fault};
 
@@ -16,8 +16,7 @@ use crate::limit::Limit;
 use crate::link_fault::LinkFault;
 use crate::sent_notes::SentNotes;
 use crate::streams::{Prompt, Sink};
-use gate_events::{LinkOut, closes_link};
-use short_list::ShortList;
+use gate_events::{LinkOut, ShortList, closes_link};
 use std::alloc::{AllocError, Global};
 use std::io::{self, ErrorKind};
 use std::marker::Model;
@@ -264,11 +263,11 @@ impl BatchWriter {
         self.refill(alloc, gate)?;
         write_out(stream, self.pending.as_slice(), gate)?;
         self.sent.tell(gate, self.pending.as_slice(), 0);
-        Ok(self.told())
+        Ok(self.wrote())
     }
 
     /// What is reported of a step that wrote everything.
-    fn told(&mut self) -> Wrote
+    fn wrote(&mut self) -> Wrote
         requires { self.old.held ≡ [] }
         ensures wrote { result ≡ record {
           bytes = length self.old.bytes;
@@ -354,7 +353,7 @@ impl BatchWriter {
         if self.joined == self.held.len() {
             return Ok(false);
         }
-        append_told(&mut self.pending, self.link, &self.held[self.joined])?;
+        append_output(&mut self.pending, self.link, &self.held[self.joined])?;
         self.sent.look(self.link, &self.held[self.joined]);
         self.joined += 1;
         Ok(true)
@@ -373,17 +372,17 @@ fn empty(bytes: &mut Vec<u8>)
 }
 
 /// Appends an item's bytes if it is for this link.
-fn append_told(bytes: &mut Vec<u8>, link: u64, out: &LinkOut) -> Result<(), AllocError>
-    ensures ok { OnOk result (bytes.new.items ≡ bytes.old.items ++ bytes_told link (link_out_seen out.now)) }
+fn append_output(bytes: &mut Vec<u8>, link: u64, out: &LinkOut) -> Result<(), AllocError>
+    ensures ok { OnOk result (bytes.new.items ≡ bytes.old.items ++ bytes_of_output link (link_out_seen out.now)) }
     ensures err { OnErr result (bytes.new.items ≡ bytes.old.items) }
 {
     match out {
         LinkOut::Write {
             link: to,
-            bytes: told,
+            bytes: written,
         } => {
             if *to == link {
-                return bytes.extend_from_slice(told.as_slice());
+                return bytes.extend_from_slice(written.as_slice());
             }
             Ok(())
         }

@@ -4,7 +4,8 @@ ghost use Rattle.std.specs.Prelude.{◌≡◌, ◌<◌, ◌+◌, ◌^◌};
 
 use crate::stream::{SocketCloser, SocketReader, SocketWriter, link_of};
 use crate::turns::wait_a_second;
-use gate_serving::{LinkEnd, LinkFault, Opened, Opener};
+use gate_serving::{LinkEnd, Opened, Opener};
+use link_io::LinkFault;
 use std::io;
 use std::io::ErrorKind;
 use std::net::{Net, TcpListener, TcpStream};

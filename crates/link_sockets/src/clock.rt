@@ -1,6 +1,6 @@
 //! The clock of a worker: the system's time, and a pause.
 
-use gate_serving::Clock;
+use gate_workers::Clock;
 use std::thread;
 use std::time::{self, Duration};
 
@@ -22,7 +22,7 @@ impl<'a, R: time::Clock> SystemClock<'a, R> {
 impl<'a, R: time::Clock> Clock for SystemClock<'a, R> {
     ghost use Rattle.std.specs.Prelude.{None};
 
-    ghost told = { λ _. None };
+    ghost reported = { λ _. None };
 
     /// The system's moment; the last one given if the system's is earlier or can't be read.
     fn now_ms(&mut self) -> u64 {

@@ -12,5 +12,4 @@ mod turns;
 pub use acceptor::Acceptor;
 pub use clock::SystemClock;
 pub use connector::{Connector, connected};
-pub use gate_serving::{Clock, Closer, LinkEnd, LinkFault, Opened, Opener, Prompt};
 pub use stream::{SocketCloser, SocketReader, SocketWriter, link_of};

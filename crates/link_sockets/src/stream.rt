@@ -1,6 +1,7 @@
 //! The two directions of a link's stream, and its closing.
 
-use gate_serving::{Closer, Opened, Prompt};
+use gate_serving::{Closer, Opened};
+use link_io::Prompt;
 use std::io::{ErrorKind, Read, Write};
 use std::net::{Shutdown, TcpStream};
 use std::sync::atomic::{AtomicBool, Ordering};

@@ -13,4 +13,3 @@ mod saying;
 mod sides;
 
 pub use book::Book;
-pub use market_law::{BookRow, Breaking, Choice, Letter, Removal, Trading};

@@ -11,7 +11,8 @@ ghost use Rattle.market_law.specs.Rows as rows;
 ghost use Rattle.market_book.specs.Tokens.{asks_for};
 
 use crate::sides::fix_side;
-use market_law::{BookRow, Trade, Trading};
+use market_law::{BookRow, Trading};
+use order_law::Trade;
 use ouch_codec::{EnterOrder, OrderState, Replace};
 use std::alloc::{AllocError, Global};
 use std::marker::Model;

@@ -3,7 +3,7 @@
 ghost use Rattle.std.specs.Prelude.{◌≡◌, ◌<◌, ◌^◌, MatchOption, true, false};
 ghost use Rattle.order_law.specs.wire_law.Printable as printable;
 
-use order_law::is_printable;
+use wire_law::is_printable;
 
 /// A letter that a message can carry: a byte from 32 to 126.
 ///

@@ -15,5 +15,4 @@ pub use laws::{
     books_are_lives, fill_or_kill_trades_all_or_nothing, orders_stay_within_what_was_asked,
     tokens_are_used_once, what_is_said_is_lawful,
 };
-pub use order_law::Trade;
 pub use row::BookRow;

@@ -9,10 +9,13 @@ ghost use Rattle.market_messages.specs.Meets.{MeetsRow, is_lawful, told_of};
 
 use crate::heard::{Heard, RowFault};
 use crate::terms::is_same_terms;
-use orders::{AppBody, Change, Order, Stage, is_same_token};
+use fix_types::AppBody;
+use order_law::Stage;
+use orders::{Change, Order};
 use ouch_codec::{Accepted, OrderState};
 use std::alloc::{AllocError, Global};
 use to_client::{Occasion, pending_of, push_canceled, push_report, report_of, shown_of};
+use wire_bytes::is_same_token;
 
 /// Lawful for an order that waits under this token, with the side and stock that it asked: the order is open with the
 /// shares and the price given, and reported as new. Where its state is dead, all of it is cancelled at once, which a

@@ -10,7 +10,9 @@ ghost use Rattle.ouch_codec.specs.declared.outbound.Outbound.TheVariants as mark
 ghost use Rattle.market_messages.specs.Meets.{IsSteady, MeetsRow, told_of};
 
 use crate::heard::{Heard, RowFault};
-use orders::{AppBody, Change, Order, ToldTrade};
+use fix_types::AppBody;
+use order_trades::ToldTrade;
+use orders::{Change, Order};
 use ouch_codec::Broken;
 use std::alloc::{AllocError, Global};
 use to_client::{Occasion, push_report, report_of, shown_of};

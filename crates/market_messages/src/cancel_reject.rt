@@ -6,10 +6,13 @@ ghost use Rattle.ouch_codec.specs.declared.outbound.Outbound.TheVariants as mark
 ghost use Rattle.market_messages.specs.Meets.{MeetsRow, is_lawful, told_of};
 
 use crate::heard::{Heard, RowFault};
-use orders::{AppBody, Change, Order, Stage, is_same_token};
+use fix_types::AppBody;
+use order_law::Stage;
+use orders::{Change, Order};
 use ouch_codec::CancelReject;
 use std::alloc::{AllocError, Global};
 use to_client::{pending_of, push_cancel_rejected, shown_of};
+use wire_bytes::is_same_token;
 
 /// Lawful for an order in the book under this token: the Cancel Order of it is answered. Where that was the last of a
 /// pending cancel, the cancel is answered by a reject.

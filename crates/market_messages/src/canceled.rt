@@ -6,10 +6,13 @@ ghost use Rattle.ouch_codec.specs.declared.outbound.Outbound.TheVariants as mark
 ghost use Rattle.market_messages.specs.Meets.{MeetsRow, is_lawful, told_of};
 
 use crate::heard::{Heard, RowFault};
-use orders::{AppBody, Change, Order, Stage, is_same_token};
+use fix_types::AppBody;
+use order_law::Stage;
+use orders::{Change, Order};
 use ouch_codec::Canceled;
 use std::alloc::{AllocError, Global};
 use to_client::{Occasion, pending_of, push_canceled, push_report, report_of, shown_of};
+use wire_bytes::is_same_token;
 
 /// Lawful for an order in the book under this token, of shares that are open: these are cancelled. Where nothing is
 /// left, the order is over, which answers a pending cancel, and a pending replace is too late; else its total is

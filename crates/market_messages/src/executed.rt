@@ -8,10 +8,14 @@ ghost use Rattle.order_machine.specs.OrderRecord.{record_life, trade_in};
 ghost use Rattle.market_messages.specs.Meets.{MeetsRow, is_lawful, told_of};
 
 use crate::heard::{Heard, RowFault};
-use orders::{AppBody, Change, Order, Stage, ToldTrade, Trade, is_same_token};
+use fix_types::AppBody;
+use order_law::{Stage, Trade};
+use order_trades::ToldTrade;
+use orders::{Change, Order};
 use ouch_codec::Executed;
 use std::alloc::{AllocError, Global};
 use to_client::{Occasion, pending_of, push_report, push_too_late, report_of, shown_of};
+use wire_bytes::is_same_token;
 
 /// Lawful for an order in the book under this token, of shares that are open, under a match number that none of its
 /// trades has: these shares are executed at this price. Where nothing is left, the order is over, and each pending

@@ -3,7 +3,8 @@
 ghost use Rattle.std.specs.Prelude.{◌≡◌, ◌≤◌, length};
 ghost use Rattle.market_messages.specs.declared.heard.RowFault.TheVariants.{NoMemory};
 
-use orders::{AppBody, Change};
+use fix_types::AppBody;
+use orders::Change;
 use std::alloc::{AllocError, AllocFailed};
 use thiserror::Error;
 

@@ -2,7 +2,7 @@
 
 use crate::heard::Heard;
 use crate::market_fault::MarketFault;
-use orders::NextTokens;
+use tokens::NextTokens;
 
 /// The result of a payload of the market.
 #[derive(Drop)]

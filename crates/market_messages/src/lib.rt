@@ -26,4 +26,3 @@ pub use heard::Heard;
 pub use hearing::hear;
 pub use judged::Judged;
 pub use market_fault::MarketFault;
-pub use ouch_codec::{DecodeRefusal, Inbound, Outbound, decode};

@@ -6,13 +6,16 @@ ghost use Rattle.ouch_codec.specs.declared.outbound.Outbound.TheVariants as mark
 ghost use Rattle.market_messages.specs.Meets.{MeetsRow, rejects_new, rejects_replace, told_of};
 
 use crate::heard::{Heard, RowFault};
-use orders::{AppBody, Change, Order, Stage, is_same_token};
+use fix_types::AppBody;
+use order_law::Stage;
+use orders::{Change, Order};
 use ouch_codec::Rejected;
 use std::alloc::{AllocError, Global};
 use to_client::{
     Occasion, Pending, Shown, pending_of, push_cancel_rejected, push_not_replaced, push_report,
     push_too_late, report_of, shown_of,
 };
+use wire_bytes::is_same_token;
 
 /// Lawful for an order that waits under this token: it is over, with the market's letter as the reason, and each
 /// pending request is too late. And for an order that isn't closed, of its oldest pending replace: that is answered by

@@ -16,13 +16,16 @@ ghost use Rattle.market_messages.specs.Meets.{MeetsRow, is_lawful, told_of};
 use crate::accepted::is_dead;
 use crate::heard::{Heard, RowFault};
 use crate::terms::is_same_terms;
-use orders::{AppBody, Change, Order, Replacing, Stage, is_same_token};
+use fix_types::AppBody;
+use order_law::Stage;
+use orders::{Change, Order, Replacing};
 use ouch_codec::Replaced;
 use std::alloc::{AllocError, Global};
 use to_client::{
     Pending, Request, Shown, pending_of, push_cancel_rejected, push_canceled, push_report,
     report_replaced, shown_of,
 };
+use wire_bytes::is_same_token;
 
 /// Lawful for an order in the book under the previous token, of its oldest pending replace, with the side and stock
 /// that the order asked: it is open under the replace's token and ClOrdID with the shares and the price given, which

@@ -5,9 +5,10 @@ ghost use Rattle.ouch_codec.specs.Parts.{unpadded};
 ghost use Rattle.orders.specs.order_law.Lawful.{same_terms};
 ghost use Rattle.market_messages.specs.Sides.{fix_side};
 
-use orders::{Order, Symbol, is_same_text};
+use fix_values::Character;
+use orders::{Order, Symbol};
 use ouch_codec::Side;
-use to_client::Character;
+use wire_bytes::is_same_text;
 
 /// Whether a stock and a side are those of an order.
 pub fn is_same_terms(order: &Order, stock: &[u8; 8], side: Side) -> bool

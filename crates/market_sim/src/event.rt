@@ -1,6 +1,6 @@
 //! What comes to the market.
 
-use market_book::Choice;
+use market_law::Choice;
 use soup_packets::Packet;
 
 /// What comes to the market: a link is up, brings a packet, or is gone; or the market does something by itself.

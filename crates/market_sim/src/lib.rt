@@ -19,6 +19,4 @@ mod sim;
 pub use event::SimEvent;
 pub use laws::messages_are_sent_from_the_number_asked;
 pub use link::SimLink;
-pub use market_book::{BookRow, Choice, Trading};
 pub use sim::Sim;
-pub use soup_packets::{Packet, Packets, Payload};

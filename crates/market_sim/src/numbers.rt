@@ -5,8 +5,8 @@
 ghost use Rattle.std.specs.Prelude.{◌≡◌};
 ghost use Rattle.market_sim.specs.Numbers as numbers;
 
-use decimal_digits::number_of;
 use itoa::Buffer;
+use wire_bytes::number_of;
 
 /// A number padded left with spaces to 20 bytes.
 pub fn padded_number(number: u64) -> [u8; 20]

@@ -4,7 +4,8 @@
 
 ghost use Rattle.market_sim.specs.Sim.{IsReadAs};
 
-use ouch_codec::{Cancel, EnterOrder, FixedWire, Inbound, Replace};
+use ouch_codec::{Cancel, EnterOrder, Inbound, Replace};
+use wire_law::FixedWire;
 
 /// The message that a payload is, or `None` where it is none. Takes no memory.
 pub fn inbound_of(payload: &[u8]) -> Option<Inbound>

@@ -6,10 +6,11 @@ ghost use Rattle.std.specs.Prelude.{◌≡◌, ◌≤◌, ◌+◌, ◌++◌, [],
 ghost use Rattle.market_sim.specs.Outbound.{outbound_bytes};
 
 use ouch_codec::{
-    Accepted, Broken, CancelPending, CancelReject, Canceled, Executed, FixedWire, Outbound,
-    Rejected, Replaced, SystemEvent,
+    Accepted, Broken, CancelPending, CancelReject, Canceled, Executed, Outbound, Rejected,
+    Replaced, SystemEvent,
 };
 use soup_packets::Payload;
+use wire_law::FixedWire;
 
 /// The most bytes of a message from the market: those of a Replaced.
 pub const LONGEST: usize = 80;

@@ -5,7 +5,7 @@ use Rattle.std.specs.Prelude.{Option, Some, None, option_and_then, option_map, i
 use Rattle.std.specs.Option.{option_or}
 use Rattle.std.specs.List.{list_all, list_any}
 use Rattle.std.specs.Char.{is_ascii_digit}
-use Rattle.decimal_digits.specs.Digits.{number_of}
+use Rattle.wire_bytes.specs.Digits.{number_of}
 use Rattle.wire_law.specs.Printable.{is_visible}
 use Rattle.toml.specs.Data.{Data, table, Members, no_members, member, get, as_str, as_integer, as_datetime}
 use Rattle.toml_datetime.specs.declared.datetime.Datetime.{Datetime}

@@ -4,8 +4,8 @@ ghost use Rattle.std.specs.Prelude.{◌≡◌, length, option_map};
 ghost use Rattle.toml.specs.View.{view};
 ghost use Rattle.operator_settings.specs.Rules as rules;
 
-use decimal_digits::{are_digits, number_of};
 use toml::Value;
+use wire_bytes::{are_digits, number_of};
 use wire_law::are_visible;
 
 /// Whether so many are from the least to the most.

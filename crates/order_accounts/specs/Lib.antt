@@ -1,4 +1,7 @@
 pub mod Growth
 pub mod Held
-pub use Rattle.ouch_codec.specs as ouch_codec
+pub mod Places
+pub mod Shelved
+pub use Rattle.order_law.specs.Life
 pub use Rattle.order_law.specs as order_law
+pub use Rattle.ouch_codec.specs as ouch_codec

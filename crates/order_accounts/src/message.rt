@@ -10,7 +10,8 @@ ghost use Rattle.order_law.specs.Messages as messages;
 ghost use Rattle.order_law.specs.Reading as spec;
 
 use crate::reading_fault::ReadingFault;
-use order_law::{Fields, WorthRefusal, parse_worth};
+use fix_fields::Fields;
+use fixed_point::{WorthRefusal, parse_worth};
 
 /// The value of a tag, or no bytes where there is none.
 pub fn text(message: &Fields, tag: u32) -> &[u8]

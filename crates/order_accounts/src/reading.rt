@@ -13,7 +13,8 @@ ghost use Rattle.order_law.specs.Reading as spec;
 
 use crate::message::{character, is, is_report_on, number, number32, price, product, sum, text};
 use crate::reading_fault::ReadingFault;
-use order_law::{Account, Fields};
+use fix_fields::Fields;
+use order_law::Account;
 use std::alloc::Global;
 use std::marker::Model;
 

@@ -15,7 +15,7 @@ use Rattle.order_machine.proofs.Finding.{map-filter, map-map}
 use Rattle.order_machine.proofs.Holds.{FitsIn}
 use Rattle.order_machine.proofs.Linked.{IsTable}
 use Rattle.order_machine.proofs.Running.{Leaves-Holding}
-use Rattle.order_ledger.specs.Sums.{executed_sum, part, value_sum}
+use Rattle.to_market.specs.order_table.Sums.{executed_sum, part, value_sum}
 use Rattle.order_core.specs.Executed.{executed_shares, executed_value}
 
 -- a number that a reading has, and an order's record where it is the client's

@@ -1,3 +1,8 @@
+mod Used
+mod Terms
+mod Stepped
+mod Heard
+pub mod LedgerSent
 mod Turns
 mod Histories
 mod Addressed

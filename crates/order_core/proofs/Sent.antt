@@ -5,7 +5,7 @@ use denote.Param.SendFields.{declared_send}
 use Rattle.std.specs.declared.hash.Hasher as Hasher
 use Rattle.std.specs.declared.hash.BuildHasher as BuildHasher
 use Rattle.std.proofs.Crossing.{crosses}
-use Rattle.order_ledger.proofs.Sent.{ledger_send}
+use Rattle.order_core.proofs.LedgerSent.{ledger_send}
 use Rattle.order_core.specs.contracts.order_core.OrderCore as OrderCore
 
 module _ (S T : RattleType) (g : BuildHasher.Ghosts S.Denot T.Denot) (h : Hasher.Ghosts T.Denot) (s : IsSend S) where

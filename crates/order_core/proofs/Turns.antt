@@ -2,15 +2,15 @@
 use Rattle.std.proofs.Common.{◌≡◌, ℕ, ◌<◌, ◌^◌, ◌++◌, List, [], ◌∷◌, length, map, refl, sym, ap, ◌∙◌, subst, subst₂}
 use Rattle.std.proofs.Common.{arith, decimal, Option, None, Some, Result, Ok, Err}
 use Rattle.std.specs.Prelude.{OnErr, Bool, option_and_then}
-use Rattle.order_ledger.specs.fix_types.declared.application.AppMsg.{AppMsg}
-use Rattle.order_ledger.specs.fix_types.Application.{body_fields, message_fields}
-use Rattle.order_ledger.specs.market_messages.ouch_codec.declared.inbound.Inbound.{Inbound}
-use Rattle.order_ledger.specs.market_messages.ouch_codec.Inbound.{inbound_bytes}
+use Rattle.fix_types.specs.declared.application.AppMsg.{AppMsg}
+use Rattle.fix_types.specs.Application.{body_fields, message_fields}
+use Rattle.market_messages.specs.ouch_codec.declared.inbound.Inbound.{Inbound}
+use Rattle.market_messages.specs.ouch_codec.Inbound.{inbound_bytes}
 use Rattle.outstanding.specs.order_law.Headline.{Each, EachWith, Says, Sends}
 use Rattle.outstanding.specs.order_law.History.{Asked, Heard, OrderHistory, Terms, OrderTurn, terms_of}
 use Rattle.outstanding.specs.order_law.Lawful.{order_token}
-use Rattle.order_ledger.specs.market_messages.ouch_codec.declared.outbound.Outbound.{Outbound}
-use Rattle.order_ledger.specs.market_messages.ouch_codec.declared.refusal.DecodeRefusal.{DecodeRefusal}
+use Rattle.market_messages.specs.ouch_codec.declared.outbound.Outbound.{Outbound}
+use Rattle.market_messages.specs.ouch_codec.declared.refusal.DecodeRefusal.{DecodeRefusal}
 use Rattle.outstanding.specs.order_law.Verdicts.{Port, Down, Up, Ended, Faulted}
 use Rattle.order_machine.specs.OrderRecord.{replacements}
 use Rattle.order_machine.specs.Table.{TableState, record_by_token, table_without_orders}
@@ -19,17 +19,17 @@ use Rattle.order_machine.specs.Runs.{Finds, Leads, LeadsTo, NumbersLeft, TurnsLe
 use Rattle.outstanding.specs.Kept.{HeldMessages, KeptMessage, kept_from, left_by}
 use Rattle.outstanding.specs.KeptInTurns.{ClientTurnsKeep, KeepsOutstanding, MarketTurnsKeep, NothingIsKept}
 use Rattle.outstanding.specs.KeptInTurns.{QuietTurnsKeep, SaidOfOrder}
-use Rattle.order_ledger.specs.market_messages.Turns.{market_fault_number}
-use Rattle.order_ledger.specs.market_messages.declared.market_fault.MarketFault.{MarketFault}
-use Rattle.order_ledger.specs.to_market.declared.port_state.PortState.{PortState}
-use Rattle.order_ledger.specs.to_market.PortsSeen.{port_seen}
-use Rattle.order_ledger.specs.declared.market_error.MarketError.{MarketError}
-use Rattle.order_ledger.specs.declared.market_error.MarketError.TheVariants as errors
-use Rattle.order_ledger.specs.declared.turns.ChangedOrder.{ChangedOrder}
-use Rattle.order_ledger.specs.declared.turns.MarketTurn.{MarketTurn}
-use Rattle.order_ledger.specs.Meets.{ChangesAny, ChangesOrder, GivesMarket, GoByNumbers}
-use Rattle.order_ledger.specs.Seen.{client_seen}
-use Rattle.order_ledger.specs.State.{LedgerState}
+use Rattle.market_messages.specs.Turns.{market_fault_number}
+use Rattle.market_messages.specs.declared.market_fault.MarketFault.{MarketFault}
+use Rattle.to_market.specs.declared.port_state.PortState.{PortState}
+use Rattle.to_market.specs.PortsSeen.{port_seen}
+use Rattle.order_core.specs.declared.market_error.MarketError.{MarketError}
+use Rattle.order_core.specs.declared.market_error.MarketError.TheVariants as errors
+use Rattle.order_core.specs.declared.ledger_turns.ChangedOrder.{ChangedOrder}
+use Rattle.order_core.specs.declared.ledger_turns.MarketTurn.{MarketTurn}
+use Rattle.order_core.specs.LedgerMeets.{ChangesAny, ChangesOrder, GivesMarket, GoByNumbers}
+use Rattle.order_core.specs.Seen.{client_seen}
+use Rattle.order_core.specs.LedgerState.{LedgerState}
 use Rattle.order_core.specs.declared.outcome.CoreOut.{CoreOut}
 use Rattle.order_core.specs.declared.outcome.MarketOut.{MarketOut}
 use Rattle.order_core.specs.Meets.{MeetsClient, MeetsHandled, MeetsPayload, left_after, sent_of}

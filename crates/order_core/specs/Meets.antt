@@ -1,20 +1,20 @@
 -- When what the core gives is what the ledger gives, and what it keeps is what is asked and not answered.
 use Rattle.std.specs.Prelude.{◌≡◌, ℕ, ◌++◌, List, [], Option, Some, None, Result, Ok, Err, decimal}
-use Rattle.order_ledger.specs.fix_types.declared.application.AppMsg.{AppMsg}
-use Rattle.order_ledger.specs.market_messages.ouch_codec.declared.inbound.Inbound.{Inbound}
-use Rattle.order_ledger.specs.market_messages.ouch_codec.declared.outbound.Outbound.{Outbound}
-use Rattle.order_ledger.specs.market_messages.ouch_codec.declared.refusal.DecodeRefusal.{DecodeRefusal}
+use Rattle.fix_types.specs.declared.application.AppMsg.{AppMsg}
+use Rattle.market_messages.specs.ouch_codec.declared.inbound.Inbound.{Inbound}
+use Rattle.market_messages.specs.ouch_codec.declared.outbound.Outbound.{Outbound}
+use Rattle.market_messages.specs.ouch_codec.declared.refusal.DecodeRefusal.{DecodeRefusal}
 use Rattle.outstanding.specs.order_law.History.{terms_of}
 use Rattle.outstanding.specs.order_law.Verdicts.{Port, Down, Up, Ended, Faulted}
 use Rattle.order_machine.specs.Machine.{faulty, market_step}
-use Rattle.order_ledger.specs.market_messages.Turns.{market_fault_number}
+use Rattle.market_messages.specs.Turns.{market_fault_number}
 use Rattle.outstanding.specs.Kept.{KeptMessage, kept_from, left_by}
-use Rattle.order_ledger.specs.declared.market_error.MarketError.{MarketError}
-use Rattle.order_ledger.specs.declared.market_error.MarketError.TheVariants as errors
-use Rattle.order_ledger.specs.declared.turns.ChangedOrder.{ChangedOrder}
-use Rattle.order_ledger.specs.declared.turns.ClientTurn.{ClientTurn}
-use Rattle.order_ledger.specs.declared.turns.MarketTurn.{MarketTurn}
-use Rattle.order_ledger.specs.Meets.{ChangesAny, GivesMarket, MeetsMessage}
+use Rattle.order_core.specs.declared.market_error.MarketError.{MarketError}
+use Rattle.order_core.specs.declared.market_error.MarketError.TheVariants as errors
+use Rattle.order_core.specs.declared.ledger_turns.ChangedOrder.{ChangedOrder}
+use Rattle.order_core.specs.declared.ledger_turns.ClientTurn.{ClientTurn}
+use Rattle.order_core.specs.declared.ledger_turns.MarketTurn.{MarketTurn}
+use Rattle.order_core.specs.LedgerMeets.{ChangesAny, GivesMarket, MeetsMessage}
 use Rattle.order_core.specs.declared.outcome.CoreOut.{CoreOut}
 use Rattle.order_core.specs.declared.outcome.MarketOut.{MarketOut}
 use Rattle.order_core.specs.State.{OrderCoreState}

@@ -1,15 +1,15 @@
 -- Runs of the order core: a list of events, and what came of each.
 use Rattle.std.specs.Prelude.{◌≡◌, ℕ, Bool, true, ◌&&◌, nat_le, List, [], ◌∷◌, map, Some, None}
 use Rattle.std.specs.List.{list_all}
-use Rattle.order_ledger.specs.fix_types.Application.{body_fields, message_fields}
-use Rattle.order_ledger.specs.market_messages.ouch_codec.Inbound.{inbound_bytes}
-use Rattle.order_ledger.specs.market_messages.ouch_codec.Values.{decoded}
+use Rattle.fix_types.specs.Application.{body_fields, message_fields}
+use Rattle.market_messages.specs.ouch_codec.Inbound.{inbound_bytes}
+use Rattle.market_messages.specs.ouch_codec.Values.{decoded}
 use Rattle.outstanding.specs.order_law.History as law
 use Rattle.order_core.specs.declared.runs.Event.{Event}
 use Rattle.order_core.specs.declared.runs.Event.TheVariants.{Came, Heard}
 use Rattle.order_core.specs.declared.runs.Outcome.{Outcome}
-use Rattle.order_ledger.specs.to_market.PortsSeen.{port_seen}
-use Rattle.order_ledger.specs.Seen.{client_seen}
+use Rattle.to_market.specs.PortsSeen.{port_seen}
+use Rattle.order_core.specs.Seen.{client_seen}
 
 abbrev pub event_of : Event → law.OrderEvent
 event_of (Came client message port) = law.Came client (message_fields message) (port_seen port)

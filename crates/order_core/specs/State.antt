@@ -3,7 +3,7 @@ use Rattle.std.specs.Prelude.{ℕ, List}
 use Rattle.outstanding.specs.order_law.History.{OrderHistory, Terms}
 use Rattle.order_machine.specs.Runs.{TurnsLeave}
 use Rattle.order_machine.specs.Table.{TableState}
-use Rattle.order_ledger.specs.State as ledger
+use Rattle.order_core.specs.LedgerState as ledger
 use Rattle.outstanding.specs.Kept.{KeptMessage}
 use Rattle.outstanding.specs.KeptInTurns.{KeepsOutstanding}
 

@@ -1,20 +1,20 @@
 -- Calls of the order core as turns of a history.
 use Rattle.std.specs.Prelude.{ℕ, [], Some, None, map, Result, Ok, Err}
-use Rattle.order_ledger.specs.fix_types.declared.application.AppMsg.{AppMsg}
-use Rattle.order_ledger.specs.fix_types.Application.{body_fields, message_fields}
-use Rattle.order_ledger.specs.market_messages.ouch_codec.Inbound.{inbound_bytes}
-use Rattle.order_ledger.specs.market_messages.ouch_codec.declared.outbound.Outbound.{Outbound}
-use Rattle.order_ledger.specs.market_messages.ouch_codec.declared.refusal.DecodeRefusal.{DecodeRefusal}
+use Rattle.fix_types.specs.declared.application.AppMsg.{AppMsg}
+use Rattle.fix_types.specs.Application.{body_fields, message_fields}
+use Rattle.market_messages.specs.ouch_codec.Inbound.{inbound_bytes}
+use Rattle.market_messages.specs.ouch_codec.declared.outbound.Outbound.{Outbound}
+use Rattle.market_messages.specs.ouch_codec.declared.refusal.DecodeRefusal.{DecodeRefusal}
 use Rattle.outstanding.specs.order_law.History.{Came, Heard, OrderTurn}
-use Rattle.order_ledger.specs.market_messages.Turns.{market_fault_number}
-use Rattle.order_ledger.specs.market_messages.declared.market_fault.MarketFault.{MarketFault}
-use Rattle.order_ledger.specs.declared.market_error.MarketError.{MarketError}
-use Rattle.order_ledger.specs.declared.market_error.MarketError.TheVariants as errors
+use Rattle.market_messages.specs.Turns.{market_fault_number}
+use Rattle.market_messages.specs.declared.market_fault.MarketFault.{MarketFault}
+use Rattle.order_core.specs.declared.market_error.MarketError.{MarketError}
+use Rattle.order_core.specs.declared.market_error.MarketError.TheVariants as errors
 use Rattle.order_core.specs.declared.outcome.CoreOut.{CoreOut}
 use Rattle.order_core.specs.declared.outcome.MarketOut.{MarketOut}
-use Rattle.order_ledger.specs.to_market.declared.port_state.PortState.{PortState}
-use Rattle.order_ledger.specs.to_market.PortsSeen.{port_seen}
-use Rattle.order_ledger.specs.Seen.{client_seen}
+use Rattle.to_market.specs.declared.port_state.PortState.{PortState}
+use Rattle.to_market.specs.PortsSeen.{port_seen}
+use Rattle.order_core.specs.Seen.{client_seen}
 
 -- a client's turn
 abbrev pub client_turn : ℕ → AppMsg → PortState → CoreOut → OrderTurn

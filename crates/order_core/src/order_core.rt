@@ -1,22 +1,24 @@
 //! The value, and the calls that step it.
 
 ghost use Rattle.std.specs.Prelude.{◌≡◌, length, map, IfOk, MatchOption, None, OnErr, ◌∷◌, [], List};
-ghost use Rattle.order_ledger.specs.market_messages.ouch_codec.Values.{decoded};
+ghost use Rattle.market_messages.specs.ouch_codec.Values.{decoded};
 ghost use Rattle.outstanding.specs.order_law.Lawful.{token_of_heard};
-ghost use Rattle.order_ledger.specs.market_messages.ouch_codec.Inbound.{inbound_bytes};
-ghost use Rattle.order_ledger.specs.to_market.PortsSeen.{port_seen};
+ghost use Rattle.market_messages.specs.ouch_codec.Inbound.{inbound_bytes};
+ghost use Rattle.to_market.specs.PortsSeen.{port_seen};
 ghost use Rattle.order_core.specs.Meets.{left_after, sent_of};
 ghost use Rattle.order_machine.specs.Runs.{NumbersLeft};
 
+use crate::ledger::OrderLedger;
+use crate::ledger_turns::ChangedOrder;
+use crate::market_error::MarketError;
 use crate::outcome::{CoreOut, MarketOut};
-use order_ledger::{
-    AppMsg, ChangedOrder, ClientTerms, DecodeRefusal, Inbound, MarketError, OrderLedger, Outbound,
-    PortState, decode,
-};
+use fix_types::AppMsg;
+use ouch_codec::{DecodeRefusal, Inbound, Outbound, decode};
 use outstanding::AskedMessages;
 use std::alloc::{AllocError, Global};
 use std::hash::{BuildHasher, BuildHasherDefault, FoldHasher};
 use std::marker::Model;
+use to_market::{ClientTerms, PortState};
 
 /// The orders of all clients, and what the ports were asked of them and haven't answered.
 ///
@@ -54,7 +56,7 @@ impl<S: BuildHasher + Drop> Model for OrderCore<S> {
 }
 
 impl OrderCore {
-    ghost use Rattle.order_ledger.specs.to_market.TermsSeen.{terms_seen};
+    ghost use Rattle.to_market.specs.TermsSeen.{terms_seen};
     ghost use Rattle.order_core.specs.State.{IsAfterTurns, core_clients, core_numbers, core_put_back};
 
     /// The order level of these clients, with no orders, with the fixed seed.
@@ -72,7 +74,7 @@ impl OrderCore {
 }
 
 impl<S: BuildHasher + Clone + Drop> OrderCore<S> {
-    ghost use Rattle.order_ledger.specs.to_market.TermsSeen.{terms_seen};
+    ghost use Rattle.to_market.specs.TermsSeen.{terms_seen};
     ghost use Rattle.order_core.specs.State.{IsAfterTurns, core_clients, core_numbers, core_put_back};
 
     /// The order level of these clients, with no orders, with a hasher.

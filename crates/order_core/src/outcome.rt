@@ -1,6 +1,7 @@
 //! What a step gives.
 
-use order_ledger::{AppBody, Inbound};
+use fix_types::AppBody;
+use ouch_codec::Inbound;
 
 /// What a client's message gives: bodies for the client, and messages to its port, in order.
 #[derive(Drop)]

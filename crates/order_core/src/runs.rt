@@ -1,20 +1,23 @@
 //! Whole runs: a list of events, from no order on.
 
 ghost use Rattle.std.specs.Prelude.{◌≡◌, ◌∷◌, [], true, Some, None, List, length, map, IfOk, OnErr};
-ghost use Rattle.order_ledger.specs.fix_types.Application.{message_fields};
-ghost use Rattle.order_ledger.specs.market_messages.ouch_codec.Values.{decoded};
+ghost use Rattle.fix_types.specs.Application.{message_fields};
+ghost use Rattle.market_messages.specs.ouch_codec.Values.{decoded};
 ghost use Rattle.outstanding.specs.order_law.Headline.{EachWith, Headline};
 ghost use Rattle.outstanding.specs.order_law.History.{Came, Heard, OrderHistory, Terms};
 ghost use Rattle.order_machine.specs.Runs.{IsTableRun, NumbersLeft};
 ghost use Rattle.order_core.specs.Runs.{AreKnown, IsFor, run_history, is_known_client, outcome_turn, turn_of_outcome};
-ghost use Rattle.order_ledger.specs.to_market.PortsSeen.{port_seen};
-ghost use Rattle.order_ledger.specs.to_market.TermsSeen.{terms_seen};
+ghost use Rattle.to_market.specs.PortsSeen.{port_seen};
+ghost use Rattle.to_market.specs.TermsSeen.{terms_seen};
 ghost use Rattle.order_core.specs.State.{IsAfterTurns, core_clients, CoreHasRoom, IsCoreClient, CoreKeeps};
 
+use crate::market_error::MarketError;
 use crate::order_core::OrderCore;
-use order_ledger::{AppBody, AppMsg, ClientTerms, Inbound, MarketError, PortState};
+use fix_types::{AppBody, AppMsg};
+use ouch_codec::Inbound;
 use std::alloc::{AllocError, Global};
 use std::hash::BuildHasher;
+use to_market::{ClientTerms, PortState};
 
 /// What comes to the order level.
 #[derive(Drop)]

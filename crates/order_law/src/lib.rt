@@ -11,10 +11,5 @@ mod stage;
 mod trade;
 
 pub use account::Account;
-pub use fix_fields::{Fields, Text};
-pub use fixed_point::{WorthRefusal, parse_worth};
-pub use ouch_codec::{EnterOrder, Inbound, Outbound};
 pub use stage::Stage;
-pub use tokens::{NextTokens, Token};
 pub use trade::Trade;
-pub use wire_law::{is_printable, padded};

@@ -4,6 +4,3 @@
 //! It is definitions and lemmas over lists alone: there is nothing to call. Whoever meets the table's steps, or the
 //! law's tellings, sends and faults, has the headline from here, by the lemmas that `proofs/Lib.antt` exports.
 #![tactic(auto)]
-
-pub use fix_fields::Text;
-pub use order_law::{NextTokens, Stage, Trade, padded};

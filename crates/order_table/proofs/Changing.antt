@@ -3,8 +3,8 @@ use Rattle.std.proofs.Common.{◌≡◌, ℕ, zero, suc, ◌∙◌, List, [], �
 use Rattle.std.proofs.Common.{slice_set, true}
 use Rattle.std.specs.Prelude.{Some, None, nat_eq}
 use Rattle.std.specs.Str.Parse.{digits_value}
-use Rattle.hint_index.proofs.Standing.{covered-changed, covered-same}
-use Rattle.hint_index.specs.Hints.{Covered, Hints, LeadsTo, hint_of}
+use Rattle.undo_index.proofs.Standing.{covered-changed, covered-same}
+use Rattle.undo_index.specs.Hints.{Covered, Hints, LeadsTo, hint_of}
 use Rattle.undo_orders.specs.orders.order_law.History.{Entry}
 use Rattle.order_machine.specs.OrderRecord.{OrderRecord}
 use Rattle.undo_orders.specs.orders.fix_types.CancelRequest.{cancel_request_fields}
@@ -12,7 +12,7 @@ use Rattle.undo_orders.specs.orders.fix_types.ReplaceRequest.{replace_request_fi
 use Rattle.undo_orders.specs.Seen.{cancel_of, cancel_seen, replace_of, replace_seen}
 use Rattle.undo_orders.specs.orders.declared.requests.Cancelling.{Cancelling}
 use Rattle.undo_orders.specs.orders.declared.requests.Replacing.{Replacing}
-use Rattle.hint_index.specs.undo_list.Undoing.{Undoable}
+use Rattle.undo_index.specs.Undoing.{Undoable}
 use Rattle.order_table.specs.declared.keys.NameKey.{NameKey}
 use Rattle.order_table.specs.declared.keys.NumberKey.{NumberKey}
 use Rattle.order_table.specs.Keys.{has_name_key, has_number_key, same_name, same_number}

@@ -15,7 +15,7 @@ use Rattle.order_machine.proofs.Texts.{eq-is, eq-true}
 use Rattle.undo_orders.specs.Changes.{changed_by, replaced_as}
 use Rattle.undo_orders.specs.orders.declared.change.Change.{Change}
 use Rattle.undo_orders.specs.orders.declared.change.Change.TheVariants as changes
-use Rattle.hint_index.specs.Newest.{IsNewest}
+use Rattle.undo_index.specs.Newest.{IsNewest}
 use Rattle.order_table.specs.Held.{is_counted, tokens_had}
 
 within : (m n : ℕ) → m ≤ n → nat_le m n ≡ true

@@ -7,4 +7,4 @@ mod Standing
 mod Summed
 mod Keeping
 mod Replaces
-pub use Rattle.hint_index.proofs as hint_index
+pub use Rattle.undo_index.proofs as undo_index

@@ -8,9 +8,9 @@ use Rattle.std.specs.List.{list_any}
 use Rattle.std.specs.Str.Parse.{digits_value}
 use Rattle.std.proofs.lemmas.Bool.{and_parts}
 use Rattle.order_machine.specs.fix_fields.Field.{text}
-use Rattle.hint_index.proofs.Keys.{key-of-same}
-use Rattle.hint_index.specs.declared.hint.Hint.{Hint}
-use Rattle.hint_index.specs.Hints.{Hints, LeadsTo, hint_of}
+use Rattle.undo_index.proofs.Keys.{key-of-same}
+use Rattle.undo_index.specs.declared.hint.Hint.{Hint}
+use Rattle.undo_index.specs.Hints.{Hints, LeadsTo, hint_of}
 use Rattle.undo_orders.specs.orders.order_law.Chain.{goes_by}
 use Rattle.undo_orders.specs.orders.order_law.History.{Entry, token_of}
 use Rattle.order_machine.proofs.Texts.{eq-is, number-decimal}

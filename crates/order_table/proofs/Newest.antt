@@ -9,8 +9,8 @@ use Rattle.std.proofs.lemmas.List.Recursion.{is_position_or_len}
 use Rattle.std.proofs.lemmas.Option.{slice_get-get_or}
 use Rattle.order_machine.specs.OrderRecord.{OrderRecord}
 use Rattle.order_machine.specs.Table.{has_number, put}
-use Rattle.hint_index.proofs.Newest.{length-reverse}
-use Rattle.hint_index.specs.Newest.{IsNewest}
+use Rattle.undo_index.proofs.Newest.{length-reverse}
+use Rattle.undo_index.specs.Newest.{IsNewest}
 use Rattle.undo_orders.specs.orders.order_law.History.{Entry}
 use Rattle.order_machine.proofs.Executed.{count-more}
 use Rattle.order_machine.proofs.Lists.{count-push, found-passes}

@@ -4,8 +4,8 @@ use Rattle.std.proofs.Common.{arith, decimal, bytes_eq, eq-eqb, eqb-true}
 use Rattle.std.specs.Prelude.{◌&&◌, nat_eq}
 use Rattle.std.specs.List.{count_by}
 use Rattle.std.proofs.lemmas.List.Sums.{count_by-le-length}
-use Rattle.number_counts.specs.declared.number_count.NumberCount.{NumberCount}
-use Rattle.number_counts.specs.Counts.{counted, one_if}
+use Rattle.undo_index.specs.declared.number_count.NumberCount.{NumberCount}
+use Rattle.undo_index.specs.Counts.{counted, one_if}
 use Rattle.order_machine.proofs.Lists.{count-push}
 use Rattle.order_machine.proofs.Texts.{decimal-same, eq-other, eq-true}
 use Rattle.order_machine.specs.Table.{GivenToken, is_replacement_of}

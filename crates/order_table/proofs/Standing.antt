@@ -5,7 +5,7 @@ use Rattle.std.specs.List.{find}
 use Rattle.std.proofs.lemmas.List.{reverse-append}
 use Rattle.order_machine.specs.OrderRecord.{OrderRecord}
 use Rattle.order_machine.specs.Table.{GivenToken, has_number, put}
-use Rattle.hint_index.specs.Newest.{IsNewest}
+use Rattle.undo_index.specs.Newest.{IsNewest}
 use Rattle.order_table.specs.declared.sums.Sums.{Sums}
 use Rattle.order_table.specs.Held.{Held, IsCounted, changed}
 use Rattle.order_table.proofs.Newest.{change-newest}

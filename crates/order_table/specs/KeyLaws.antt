@@ -5,7 +5,7 @@ use Rattle.std.specs.Cmp.Lexicographic.{bytes_decides}
 use Rattle.std.specs.Hash as fed
 use Rattle.std.specs.Str.Parse.{digits_value}
 use Rattle.std.proofs.lemmas.Bool.{and_parts}
-use Rattle.hint_index.specs.KeyLaws.{same-is}
+use Rattle.undo_index.specs.KeyLaws.{same-is}
 use Rattle.order_machine.specs.OrderRecord.{OrderRecord}
 use Rattle.order_machine.specs.Table.{GivenToken}
 use Rattle.order_table.specs.declared.keys.NameKey.{NameKey}

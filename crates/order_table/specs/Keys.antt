@@ -4,7 +4,7 @@ use Rattle.std.specs.Prelude.{ℕ, Bool, false, ◌||◌, List, Option, Some, No
 use Rattle.std.specs.List.{list_any}
 use Rattle.std.specs.Str.Parse.{digits_value}
 use Rattle.order_machine.specs.fix_fields.Field.{text}
-use Rattle.hint_index.specs.TextKeys.{same_key, text_key}
+use Rattle.undo_index.specs.TextKeys.{same_key, text_key}
 use Rattle.undo_orders.specs.orders.order_law.History.{Entry}
 use Rattle.undo_orders.specs.orders.declared.requests.Replacing.{Replacing}
 use Rattle.order_machine.specs.OrderRecord.{Cancelling, OrderRecord}

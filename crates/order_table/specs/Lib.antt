@@ -12,4 +12,4 @@ pub use Rattle.order_machine.specs.OrderRecord
 pub use Rattle.order_machine.specs.Table
 pub use Rattle.undo_orders.specs.Changes
 pub use Rattle.undo_orders.specs.Seen
-pub use Rattle.hint_index.specs as hint_index
+pub use Rattle.undo_index.specs as undo_index

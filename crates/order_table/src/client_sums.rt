@@ -4,9 +4,9 @@ ghost use Rattle.std.specs.Prelude.{◌≡◌, ◌≤◌, ◌<◌, ◌==◌, ℕ
 ghost use Rattle.order_table.specs.Sums.{HasRoom, IsExchanged, IsPart, sums_at};
 
 use crate::sums::Sums;
-use hint_index::UndoList;
 use std::alloc::{AllocError, Global};
 use std::marker::Model;
+use undo_index::UndoList;
 
 /// The sums of each client, at the place of the client's number. Contracts see the list, now and as it was settled:
 /// past its end every client has those of no order.
@@ -16,7 +16,7 @@ pub struct ClientSums {
 }
 
 impl Model for ClientSums {
-    ghost use Rattle.hint_index.specs.undo_list.Undoing.{Undoable};
+    ghost use Rattle.undo_index.specs.Undoing.{Undoable};
     ghost use Rattle.order_table.specs.declared.sums.Sums.{Sums};
 
     ghost Value = { Undoable Sums };

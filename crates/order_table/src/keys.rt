@@ -12,8 +12,9 @@ ghost use Rattle.order_table.specs.KeyLaws.{name-alike, number-alike, token-alik
 
 use crate::table::GivenToken;
 use crate::token_key::TokenKey;
-use hint_index::{Keyed, Sought, TextKey};
-use undo_orders::{Boxed, Cancelling, Order, Replacing, is_same_token};
+use orders::{Boxed, Cancelling, Order, Replacing};
+use undo_index::{Keyed, Sought, TextKey};
+use wire_bytes::is_same_token;
 
 /// The number of an OrderID, as a key.
 #[derive(Clone, Copy, PartialEq, Eq, Hash)]

@@ -4,8 +4,8 @@ ghost use Rattle.std.specs.Prelude.{◌≡◌, ◌+◌, ◌≤◌, ◌<◌, ◌^
 ghost use Rattle.std.specs.Prelude.{reverse};
 ghost use Rattle.std.specs.Prelude.{slice_get, slice_set, MatchOption, IfOk, OnErr, OnOk};
 ghost use Rattle.std.specs.List.{find};
-ghost use Rattle.hint_index.specs.Hints.{Covered, LeadsTo, hint_of};
-ghost use Rattle.hint_index.specs.Newest.{IsNewest};
+ghost use Rattle.undo_index.specs.Hints.{Covered, LeadsTo, hint_of};
+ghost use Rattle.undo_index.specs.Newest.{IsNewest};
 ghost use Rattle.order_table.specs.declared.keys.NameKey.{NameKey as Key};
 ghost use Rattle.order_machine.specs.OrderRecord.{OrderRecord, at};
 ghost use Rattle.order_machine.specs.Table as table;
@@ -14,11 +14,12 @@ ghost use Rattle.undo_orders.specs.Changes.{Fits, changed_by};
 ghost use Rattle.undo_orders.specs.Seen.{cancel_of, replace_of};
 
 use crate::keys::{ByName, ByNumber, NameKey, NumberKey, key_of_cancel};
-use hint_index::HintIndex;
+use orders::{Cancelling, Change, Order, Replacing};
 use std::alloc::{AllocError, Global};
 use std::hash::{BuildHasher, BuildHasherDefault, FoldHasher};
 use std::marker::Model;
-use undo_orders::{Cancelling, Change, Order, Replacing, UndoOrders};
+use undo_index::HintIndex;
+use undo_orders::UndoOrders;
 
 /// The accepted orders, the oldest first, each found by its number and by the ids that it goes by. Contracts see the
 /// list, now and as it was settled, and for how many orders more there is room.
@@ -40,11 +41,11 @@ impl<S: BuildHasher + Drop> Drop for OrderList<S> {
 }
 
 impl<S: BuildHasher + Drop> Model for OrderList<S> {
-    ghost use Rattle.hint_index.specs.Hints.{Covered};
+    ghost use Rattle.undo_index.specs.Hints.{Covered};
     ghost use Rattle.order_machine.specs.OrderRecord.{OrderRecord};
     ghost use Rattle.order_table.specs.Keys.{has_name_key, has_number_key, same_name, same_number};
     ghost use Rattle.order_table.specs.Rooms.{room_of_order};
-    ghost use Rattle.hint_index.specs.undo_list.Undoing.{Undoable};
+    ghost use Rattle.undo_index.specs.Undoing.{Undoable};
 
     ghost Value = { Undoable OrderRecord };
 

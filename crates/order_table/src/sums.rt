@@ -4,7 +4,8 @@ ghost use Rattle.std.specs.Prelude.{◌≡◌, true, not};
 ghost use Rattle.undo_orders.specs.orders.order_law.Life.{is_closed};
 ghost use Rattle.order_table.specs.Sums.{is_small, no_sums, part, sums_of};
 
-use undo_orders::{Order, Stage};
+use order_law::Stage;
+use orders::Order;
 
 /// What all orders of a client come to, or one of them alone.
 #[derive(Clone, Copy, Drop)]

@@ -9,10 +9,11 @@ use crate::client_sums::ClientSums;
 use crate::order_list::{OrderList, client_of};
 use crate::sums::Sums;
 use crate::token_list::TokenList;
+use order_law::Stage;
+use orders::{Cancelling, Change, Order, Replacing};
 use std::alloc::{AllocError, Global};
 use std::hash::{BuildHasher, BuildHasherDefault, FoldHasher};
 use std::marker::Model;
-use undo_orders::{Cancelling, Change, Order, Replacing, Stage};
 
 /// A token that was given for an order.
 #[derive(Drop)]

@@ -8,7 +8,7 @@ ghost use Rattle.order_table.specs.TokenKeys.{same_token_key, token_key};
 ghost use Rattle.order_table.specs.KeyLaws.{token-hash-alike};
 
 use std::hash::{Hash, Hasher};
-use undo_orders::is_same_token;
+use wire_bytes::is_same_token;
 
 /// The key of a port with the text of a token, which takes no memory. Equal ports and texts have equal keys.
 #[derive(Clone, Copy)]

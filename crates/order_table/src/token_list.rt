@@ -3,17 +3,16 @@
 ghost use Rattle.std.specs.Prelude.{◌≡◌, ◌≤◌, ◌<◌, ◌^◌, ◌++◌, ◌∷◌, [], None, Some, length, reverse};
 ghost use Rattle.std.specs.Prelude.{slice_get, MatchOption, OnOk, ℕ, ◌+◌, ◌&&◌, nat_eq, decimal};
 ghost use Rattle.std.specs.List.{count_by, find};
-ghost use Rattle.hint_index.specs.Newest.{IsNewest};
-ghost use Rattle.number_counts.specs.Counts.{counted, one_if};
+ghost use Rattle.undo_index.specs.Newest.{IsNewest};
+ghost use Rattle.undo_index.specs.Counts.{counted, one_if};
 ghost use Rattle.order_machine.specs.Table as table;
 
 use crate::keys::ByToken;
 use crate::table::GivenToken;
 use crate::token_key::TokenKey;
-use hint_index::{HintIndex, UndoList};
-use number_counts::NumberCounts;
 use std::alloc::{AllocError, Global};
 use std::marker::Model;
+use undo_index::{HintIndex, NumberCounts, UndoList};
 
 /// The tokens that were given, the oldest first, each found by its port and its text; how many of them replaces of
 /// each order were given is counted. Contracts see the list, now and as it was settled, and for how many tokens more
@@ -37,13 +36,13 @@ impl Drop for TokenList {
 }
 
 impl Model for TokenList {
-    ghost use Rattle.hint_index.specs.Hints.{Covered};
+    ghost use Rattle.undo_index.specs.Hints.{Covered};
     ghost use Rattle.order_machine.specs.Table as table;
     ghost use Rattle.order_table.specs.Keys.{has_token_key};
     ghost use Rattle.order_table.specs.Replaces.{AreReplaces};
     ghost use Rattle.order_table.specs.Rooms.{room_of_token};
     ghost use Rattle.order_table.specs.TokenKeys.{same_token_key};
-    ghost use Rattle.hint_index.specs.undo_list.Undoing.{Undoable};
+    ghost use Rattle.undo_index.specs.Undoing.{Undoable};
 
     ghost Value = { Undoable table.GivenToken };
 

@@ -11,8 +11,8 @@ use Rattle.std.proofs.lemmas.List.Quantifiers.{position-Some}
 use Rattle.std.proofs.lemmas.Map.Keys.{any_passes_from_place}
 use Rattle.std.proofs.lemmas.Option.{slice_get-get_or, slice_get_within}
 use Rattle.order_law.specs.declared.trade.Trade.{Trade}
-use Rattle.hint_index.specs.Newest.{IsNewest, OnlyAt}
-use Rattle.hint_index.proofs.Newest.{nowhere, only-newest, only-none}
+use Rattle.undo_index.specs.Newest.{IsNewest, OnlyAt}
+use Rattle.undo_index.proofs.Newest.{nowhere, only-newest, only-none}
 use Rattle.order_trades.specs.Found.{AreApart, IsAt, Leads, noted}
 use Rattle.order_trades.specs.Marking.{changed_at, has_match, told_marked, told_stands, told_unbroken}
 use Rattle.order_trades.specs.declared.told_trade.ToldTrade.{ToldTrade}

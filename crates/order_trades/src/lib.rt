@@ -9,6 +9,5 @@ mod indexed;
 mod told_trade;
 mod trades;
 
-pub use order_law::Trade;
 pub use told_trade::ToldTrade;
 pub use trades::Trades;

@@ -7,7 +7,7 @@ ghost use Rattle.orders.specs.Seen.{cancel_seen, has_token, left_of};
 
 use crate::boxed::Boxed;
 use crate::requests::{Cancelling, Replacing};
-use same_bytes::is_same_token;
+use wire_bytes::is_same_token;
 
 impl Cancelling {
     /// Whether no other Cancel Order than that of a token is left.

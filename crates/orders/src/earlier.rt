@@ -3,7 +3,7 @@
 ghost use Rattle.std.specs.Prelude.{◌≡◌, ◌<◌, ◌++◌, ◌∷◌, [], bytes_eq, vec_len, vec_capacity};
 ghost use Rattle.std.specs.List.{list_any};
 
-use same_bytes::is_same_token;
+use wire_bytes::is_same_token;
 
 /// Adds a token, where there is room for it.
 pub fn push_earlier(tokens: &mut Vec<[u8; 14]>, token: [u8; 14])

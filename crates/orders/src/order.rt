@@ -18,12 +18,12 @@ use crate::replaces::Replaces;
 use crate::requests::{Cancelling, Replacing};
 use crate::symbol::Symbol;
 use fix_types::{Character, ClOrdId, NewOrder};
-use order_machine::NextTokens;
 use order_trades::{ToldTrade, Trades};
-use same_bytes::is_same_token;
 use std::alloc::{AllocError, Global};
 use std::marker::Model;
 use std::snapshot::Snapshot;
+use tokens::NextTokens;
+use wire_bytes::is_same_token;
 
 /// An accepted order. Contracts see it as `order_machine`'s record.
 pub struct Order {

@@ -4,7 +4,7 @@ ghost use Rattle.std.specs.Prelude.{◌≡◌, ◌≢◌, ◌≤◌, ◌<◌, �
 ghost use Rattle.order_machine.specs.fixed_point.Decimal.{most_shares};
 ghost use Rattle.order_machine.specs.order_law.declared.stage.Stage.TheVariants.{Waiting, Working, Closed};
 
-use order_machine::Stage;
+use order_law::Stage;
 
 /// How far an order has come: its stage and its quantities. A step gives another value.
 #[derive(Clone, Copy)]

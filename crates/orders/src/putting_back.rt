@@ -19,7 +19,7 @@ use crate::order::Order;
 use crate::replaces::Replaces;
 use crate::requests::Cancelling;
 use fix_types::ClOrdId;
-use order_machine::Stage;
+use order_law::Stage;
 use std::alloc::{AllocError, Global};
 
 impl Order {

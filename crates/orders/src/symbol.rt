@@ -1,7 +1,8 @@
 //! The symbol of an order.
 
-use order_machine::{Text, padded};
+use fix_fields::Text;
 use std::marker::Model;
+use wire_law::padded;
 
 /// Symbol (55) of an order, in place: at most 8 bytes. Contracts see the list of its bytes.
 ///

@@ -23,4 +23,3 @@ pub use outbound::{
 };
 pub use refusal::DecodeRefusal;
 pub use side::Side;
-pub use wire_law::{FixedWire, WholeWire};

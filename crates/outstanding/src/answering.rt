@@ -5,8 +5,8 @@ ghost use Rattle.std.specs.List.{list_any};
 ghost use Rattle.order_law.specs.History as law;
 ghost use Rattle.outstanding.specs.Kept.{asked_by_fields};
 
-use order_law::{Inbound, Outbound};
-use same_bytes::is_same_token;
+use ouch_codec::{Inbound, Outbound};
+use wire_bytes::is_same_token;
 
 /// Whether a message from the market answers one that it was asked of the same order, whose pending replaces ask for
 /// the tokens `next`, the oldest first.

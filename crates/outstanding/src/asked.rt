@@ -1,6 +1,6 @@
 //! A message that a port was asked.
 
-use order_law::Inbound;
+use ouch_codec::Inbound;
 
 /// A message that a port was asked.
 #[derive(Clone, Copy)]

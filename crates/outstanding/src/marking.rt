@@ -11,7 +11,7 @@ ghost use Rattle.outstanding.specs.Marks.{settled_one, is_unanswered, marked_by,
 use crate::answering::answers;
 use crate::asked::{Answer, AskedMessage};
 use crate::chains::Chains;
-use order_law::Outbound;
+use ouch_codec::Outbound;
 
 /// Goes along an order's chain and marks those that a message from the market on a port answers, or whose order it
 /// closes. Their places are noted, for which there is room.

@@ -9,7 +9,7 @@ ghost use Rattle.outstanding.specs.Marks.{asked_of, unanswered};
 use crate::asked::AskedMessage;
 use crate::marking::is_unanswered;
 use crate::places::Places;
-use order_law::{Inbound, Outbound};
+use ouch_codec::{Inbound, Outbound};
 use std::alloc::{AllocError, Global};
 use std::marker::Model;
 

@@ -10,7 +10,7 @@ ghost use Rattle.outstanding.specs.Marks.{asked_of, settled_one, is_held, is_una
 use crate::asked::{Answer, AskedMessage};
 use crate::chains::Chains;
 use crate::marking::{is_unanswered, mark, settle_marked, unmark};
-use order_law::{Inbound, Outbound};
+use ouch_codec::{Inbound, Outbound};
 use std::alloc::{AllocError, Global};
 use std::marker::Model;
 

@@ -1,7 +1,7 @@
 //! A client of whom the generator draws messages.
 
-use closed_world::ClientNumber;
 use fix_stamp::stamp;
+use gate_events::ClientNumber;
 use seeded_choices::Chance;
 use std::alloc::{AllocError, Global};
 use std::io::{self, Write};

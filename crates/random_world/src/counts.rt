@@ -1,8 +1,9 @@
 //! What came of a world, counted.
 
 use fix_fields::FieldsView;
-use gate_audit::{BookRow, OrderPair, Played};
+use gate_audit::{OrderPair, Played};
 use gate_events::{Batch, Event};
+use market_law::BookRow;
 use std::alloc::{AllocError, Global};
 use std::fmt;
 

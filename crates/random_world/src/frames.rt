@@ -1,8 +1,8 @@
 //! Frames of clients.
 
-use closed_world::ClientFrame;
 use fix_fields::split;
 use fix_framing::frame_of_text;
+use gate_events::ClientFrame;
 use std::alloc::{AllocError, Global};
 
 /// The whole frame of a message's text, from MsgType (35) on; `None` where it is no frame.

@@ -15,9 +15,6 @@ mod weights;
 
 pub use counts::{Counts, counts_of};
 pub use frames::frame_of;
-pub use gate_audit::{
-    BookRow, History, OrderPair, Played, ReadingFault, Settings, WorldStep, play,
-};
 pub use maker::random_steps;
 pub use settings::world_settings;
 pub use shape::Shape;

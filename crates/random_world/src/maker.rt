@@ -4,10 +4,10 @@ use crate::client::Client;
 use crate::frames::frame_of;
 use crate::shape::Shape;
 use crate::weights::{Kind, Weights};
-use closed_world::{
-    BookRow, Choice, ClientNumber, ClosedWorld, Event, PortNumber, Settings, Trading, WorldStep,
-};
-use market_book::{Breaking, Letter, Removal};
+use closed_world::{ClosedWorld, WorldStep};
+use gate_events::{ClientNumber, Event, PortNumber};
+use gate_settings::Settings;
+use market_law::{BookRow, Breaking, Choice, Letter, Removal, Trading};
 use seeded_choices::Chance;
 use std::alloc::Global;
 use std::io;

@@ -4,7 +4,9 @@ use crate::counts::{Counts, counts_of};
 use crate::maker::random_steps;
 use crate::settings::world_settings;
 use crate::shape::Shape;
-use gate_audit::{ReadingFault, Settings, play};
+use gate_audit::play;
+use gate_settings::Settings;
+use order_accounts::ReadingFault;
 use std::alloc::Global;
 use std::io::{self, ErrorKind, Write};
 

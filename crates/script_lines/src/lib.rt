@@ -21,6 +21,5 @@ mod words;
 pub use client::Client;
 pub use fault::LineFault;
 pub use line::{Line, line_of};
-pub use ouch_codec::Outbound;
 pub use payload::payload_of;
 pub use port::Port;

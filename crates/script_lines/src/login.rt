@@ -8,7 +8,7 @@ ghost use Rattle.script_lines.specs.Words.{words_of};
 ghost use Rattle.script_lines.specs.Login as spec;
 
 use crate::words::{first_word, only_word};
-use decimal_digits::are_digits;
+use wire_bytes::are_digits;
 
 /// The bytes of a session.
 const SESSION_BYTES: usize = 10;

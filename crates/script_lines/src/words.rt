@@ -10,9 +10,9 @@ ghost use Rattle.script_lines.specs.Words.{words_of, number_in, IsNumberBelow};
 ghost use Rattle.script_lines.specs.Forms.{is_number64, is_number32, is_share_count, is_token_number, is_stock};
 ghost use Rattle.script_lines.specs.Forms.{is_side_word, is_state_word, is_printable_word};
 
-use decimal_digits::number_of;
 use ouch_codec::{OrderState, Side};
 use tokens::Token;
+use wire_bytes::number_of;
 use wire_law::{MOST_SHARES, are_visible, is_printable, padded};
 
 /// The first word of a text and what stands behind the space after it; `None` where the text has no space.

@@ -11,10 +11,5 @@ mod packets;
 mod runner;
 mod settings;
 
-pub use fix_fields::split;
-pub use gate_core::Core;
-pub use gate_events::{Batch, ClientFrame, ClientNumber, Event, Source};
-pub use gate_journal::History;
 pub use runner::{Runner, warm_runner};
-pub use script_lines::LineFault;
 pub use settings::fixed_settings;

@@ -5,7 +5,8 @@
 ghost use Rattle.std.specs.Prelude.{◌≡◌, ◌++◌, [], IfOk, Ok};
 ghost use Rattle.script_lines.specs.ouch_codec.Decoding.{Decodes};
 
-use script_lines::{LineFault, Outbound, payload_of};
+use ouch_codec::Outbound;
+use script_lines::{LineFault, payload_of};
 use soup_packets::{Packet, Payload};
 use std::alloc::{AllocError, Global};
 

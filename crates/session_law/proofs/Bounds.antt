@@ -8,9 +8,9 @@ use Rattle.std.specs.Option.{option_and_then}
 use Rattle.std.proofs.lemmas.Bool.Decides.{nat_tests}
 use Rattle.std.proofs.lemmas.List.{length-append}
 use Rattle.std.proofs.lemmas.Str.Parse.{digits_value_short}
-use Rattle.fix_framing.proofs.decimal_digits.Numbers.{own}
+use Rattle.fix_framing.proofs.wire_bytes.Numbers.{own}
 use Rattle.fix_framing.specs.fix_fields.Field.{first_value, Message, is}
-use Rattle.fix_framing.specs.decimal_digits.Digits.{number_of}
+use Rattle.fix_framing.specs.wire_bytes.Digits.{number_of}
 use Rattle.fix_framing.specs.fix_fields.declared.session_refusal.SessionRefusal.{SessionRefusal}
 use Rattle.session_law.specs.declared.phase.Phase.{Phase}
 use Rattle.session_law.specs.declared.phase.Phase.TheVariants.{Down, AwaitingLogon, LoggedOn}

@@ -4,7 +4,7 @@ use Rattle.std.specs.Option.{option_and_then}
 use Rattle.std.specs.List.{list_all}
 use Rattle.std.specs.Char.{is_ascii_digit}
 use Rattle.fix_framing.specs.fix_fields.Field.{Field, Message, field, first_value}
-use Rattle.fix_framing.specs.decimal_digits.Digits.{number_of}
+use Rattle.fix_framing.specs.wire_bytes.Digits.{number_of}
 
 -- a number of the gateway's, written
 abbrev pub number_as_field : ℕ → ℕ → Field

@@ -14,11 +14,9 @@ mod taken;
 mod words;
 
 pub use due::{Due, due_at};
-pub use fix_types::{AppBody, AppMsg};
 pub use logon_words::{interval_of, is_interval, is_reset_flag, resets};
 pub use message::{is_plain_reset, is_type, numbered};
 pub use requests::application_of;
 pub use row::{Row, judge_low, judge_plain_reset};
-pub use session_law::{Frame, Kind, Out, Phase};
 pub use taken::{Taken, judge_resend, judge_taken};
 pub use words::{has, is, is_letter, number, text};

@@ -5,9 +5,8 @@ ghost use Rattle.fix_types.specs.fix_fields.Field.{IsValue};
 ghost use Rattle.fix_types.specs.fix_fields.Field as tags;
 ghost use Rattle.session_law.specs.Messages as law;
 
-use decimal_digits::number_of;
 use fix_types::Fields;
-use same_bytes::is_same_text;
+use wire_bytes::{is_same_text, number_of};
 
 /// The value of a tag, or no bytes where there is none.
 pub fn text<'a>(m: &'a Fields, tag: u32) -> &'a [u8]

@@ -7,7 +7,7 @@ ghost use Rattle.session_reading.specs.session_law.Messages as law;
 ghost use Rattle.session_reading.specs.session_law.Table as table;
 ghost use Rattle.session_reading.specs.session_law.Session as session;
 
-use fix_framing::Fields;
+use fix_fields::Fields;
 use itoa::Buffer;
 use session_reading::{numbered, text};
 use std::alloc::{AllocError, Global};

@@ -14,9 +14,9 @@ use crate::names::Names;
 use crate::output::{printed_front, push_issue};
 use crate::resend::part_of;
 use crate::stamped::Stamped;
-use fix_framing::PrintedFields;
-use session_law::IssuedReport;
-use session_reading::{AppBody, Kind};
+use fix_fields::PrintedFields;
+use fix_types::AppBody;
+use session_law::{IssuedReport, Kind};
 use std::alloc::{AllocError, Global};
 use std::marker::Model;
 

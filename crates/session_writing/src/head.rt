@@ -1,6 +1,6 @@
 //! What stands round the body of a frame.
 
-use session_reading::Kind;
+use session_law::Kind;
 
 /// What stands round the body of a frame.
 #[derive(Clone, Copy)]

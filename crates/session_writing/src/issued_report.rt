@@ -8,9 +8,9 @@ ghost use Rattle.session_reading.specs.session_law.declared.frame.Frame.{Frame};
 ghost use Rattle.session_reading.specs.session_law.declared.frame.Out.TheVariants.{Write};
 ghost use Rattle.session_writing.specs.Written.{told_frame};
 
-use fix_framing::{PrintedFields, frame_of_text};
-use session_law::IssuedReport;
-use session_reading::Phase;
+use fix_fields::PrintedFields;
+use fix_framing::frame_of_text;
+use session_law::{IssuedReport, Phase};
 use std::alloc::{AllocError, Global};
 
 /// The report of these fields; `AllocError` where they print in more than `IssuedReport::LONGEST` bytes.

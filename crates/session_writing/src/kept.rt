@@ -12,7 +12,7 @@ use crate::names::Names;
 use crate::output::SessionOut;
 use crate::place::KeptPlace;
 use crate::resend::append_resent;
-use session_reading::Kind;
+use session_law::Kind;
 use std::alloc::{AllocError, Global};
 use std::marker::Model;
 

@@ -4,8 +4,7 @@ ghost use Rattle.std.specs.Prelude.{◌≡◌, ◌++◌, OnOk, IfOk};
 ghost use Rattle.fix_framing.specs.fix_fields.Field.{IsValue};
 ghost use Rattle.session_writing.specs.Heads.{name_fields};
 
-use fix_fields::Text;
-use fix_framing::PrintedFields;
+use fix_fields::{PrintedFields, Text};
 use std::alloc::{AllocError, Global};
 use std::marker::Model;
 

@@ -16,8 +16,9 @@ ghost use Rattle.session_writing.specs.Written.{told_bytes};
 use crate::head::FrameHead;
 use crate::names::Names;
 use crate::stamped::Stamped;
-use fix_framing::{PrintedFields, frame_of_text, printed_fields};
-use session_reading::{Frame, Kind, Out};
+use fix_fields::{PrintedFields, printed_fields};
+use fix_framing::frame_of_text;
+use session_law::{Frame, Kind, Out};
 use std::alloc::{AllocError, Global};
 
 /// How many bytes a header and TransactTime (60) take at most, where the names have 60 bytes.

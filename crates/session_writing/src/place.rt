@@ -1,6 +1,6 @@
 //! Where a kept body stands in the text of all kept bodies.
 
-use session_reading::Kind;
+use session_law::Kind;
 
 /// What a number was given to.
 #[derive(Clone, Copy)]

@@ -18,8 +18,9 @@ use crate::output::{SessionOut, frame_of_body};
 use crate::place::KeptPlace;
 use crate::resent_text::ResentText;
 use crate::stamped::Stamped;
-use fix_framing::{PrintedFields, frame_of_text};
-use session_reading::Kind;
+use fix_fields::PrintedFields;
+use fix_framing::frame_of_text;
+use session_law::Kind;
 use std::alloc::{AllocError, Global};
 
 /// Appends the numbers of these places in a text again, the first of which has this number.

@@ -13,8 +13,8 @@ ghost use Rattle.session_writing.specs.Resent.{HeadsFit, moment_fields, start_fi
 use crate::names::Names;
 use crate::output::{is_issued, kind_letter};
 use crate::stamped::Stamped;
-use fix_framing::PrintedFields;
-use session_reading::Kind;
+use fix_fields::PrintedFields;
+use session_law::Kind;
 use std::alloc::{AllocError, Global};
 
 /// Room for MsgType (35) and both names, where they have 60 bytes at most.

@@ -4,7 +4,7 @@ ghost use Rattle.std.specs.Prelude.{◌≡◌, ◌++◌, ◌∷◌, [], Some, On
 ghost use Rattle.fix_framing.specs.fix_fields.Printed.{PrintsFields, fields_in};
 
 use crate::kept::KeptBodies;
-use session_reading::Kind;
+use session_law::Kind;
 use std::alloc::{AllocError, Global};
 use std::marker::Model;
 

@@ -9,7 +9,7 @@ use Rattle.std.specs.Prelude.{◌+◌, take, if◌then◌else◌}
 use Rattle.std.specs.Option.{option_or}
 use Rattle.std.specs.List.{count_by, list_all, list_any}
 use Rattle.std.specs.Char.{is_ascii_digit}
-use Rattle.decimal_digits.specs.Digits.{number_of}
+use Rattle.wire_bytes.specs.Digits.{number_of}
 use Rattle.wire_law.specs.Printable.{is_printable, is_visible}
 use Rattle.gate_law.specs.Limits.{is_between, is_byte_of, is_name}
 use Rattle.toml.specs.Data.{Data, table, Items, no_items, item, Members, no_members, member, get, as_array, as_str}

@@ -12,9 +12,10 @@ ghost use Rattle.settings_file.specs.Rules.{is_letter_of, refused_client};
 use crate::fault::{SettingsFault, SettingsTable, refusal_of};
 use crate::keys::{first_other, number_behind};
 use crate::texts::{firm, is_this, letter, own_address, own_name, port_name};
-use gate_law::Text;
-use gate_settings::{ClientSettings, ClientTerms};
+use fix_fields::Text;
+use gate_settings::ClientSettings;
 use std::alloc::{AllocError, Global};
+use to_market::ClientTerms;
 use toml::Value;
 use wire_law::padded;
 

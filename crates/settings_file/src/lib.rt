@@ -17,5 +17,4 @@ mod texts;
 
 pub use example::EXAMPLE;
 pub use fault::{Refusal, SettingsFault, SettingsTable};
-pub use gate_settings::Settings;
 pub use reading::{SettingsFile, read};

@@ -18,7 +18,7 @@ use crate::fault::{SettingsFault, SettingsTable, refusal_of};
 use crate::keys::first_other;
 use crate::port::{PortEntry, read_port};
 use crate::texts::{is_between, own_name};
-use gate_law::Text;
+use fix_fields::Text;
 use gate_settings::{ClientSettings, PortSettings, Settings};
 use std::alloc::Global;
 use std::marker::Model;

@@ -7,8 +7,8 @@ ghost use Rattle.toml.specs.View.{view};
 ghost use Rattle.settings_file.specs.Rules as rules;
 ghost use Rattle.settings_file.specs.Rules.{kept_text};
 
-use decimal_digits::{are_digits, number_of};
 use toml::Value;
+use wire_bytes::{are_digits, number_of};
 use wire_law::{are_printable, are_visible};
 
 /// The text of a key, where it has one.

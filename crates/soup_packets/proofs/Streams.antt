@@ -12,7 +12,7 @@ use Rattle.soup_packets.specs.Front.{LendsPacket}
 use Rattle.soup_packets.specs.Spelling.{packet_bytes, same_first}
 use Rattle.soup_packets.specs.Stream.{packets_written, ArePackets, EndsEmpty, IsPartial, BeginsEmpty, Stops, Fed}
 use Rattle.soup_packets.specs.Stream.{PassesPacket}
-use Rattle.stream_buffer.specs.Buffer.{BytesHeld, LetsGo}
+use Rattle.wire_streams.specs.Buffer.{BytesHeld, LetsGo}
 
 written_both : (ps qs : List Packet) → packets_written (ps ++ qs) ≡ packets_written ps ++ packets_written qs
 written_both ps qs = flat_map-append packet_bytes ps qs

@@ -4,5 +4,5 @@ pub mod Heads
 pub mod Lent
 pub mod Front
 pub mod Worked
-pub use Rattle.stream_buffer.specs.Buffer
-pub use Rattle.stream_buffer.specs as stream_buffer
+pub use Rattle.wire_streams.specs.Buffer
+pub use Rattle.wire_streams.specs as wire_streams

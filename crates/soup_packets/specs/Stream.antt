@@ -4,7 +4,7 @@
 -- its type at least, so no packet begins so.
 use Rattle.std.specs.Prelude.{◌≡◌, ℕ, ◌+◌, ◌*◌, ◌<◌, ◌≤◌, ◌⊎◌, Bool, true, false, List, [], ◌∷◌, ◌++◌, length}
 use Rattle.std.specs.List.{flat_map}
-use Rattle.stream_buffer.specs.Buffer.{BytesHeld, LetsGo}
+use Rattle.wire_streams.specs.Buffer.{BytesHeld, LetsGo}
 use Rattle.soup_packets.specs.declared.packet.Packet.{Packet}
 use Rattle.soup_packets.specs.Spelling.{packet_bytes}
 

@@ -4,7 +4,7 @@ ghost use Rattle.std.specs.Prelude.{◌≡◌, ◌++◌, ◌*◌, ◌^◌, ◌<�
 ghost use Rattle.std.specs.Prelude.{Result, IsErrOf, Err, IsOk, IsTrue, ◌↔◌, ⊤};
 ghost use Rattle.std.specs.Borrow.{sem, follows_so};
 ghost use mathlib.Core.Option.{none};
-ghost use Rattle.stream_buffer.specs.Buffer.{Takes, Counts};
+ghost use Rattle.wire_streams.specs.Buffer.{Takes, Counts};
 ghost use Rattle.soup_packets.specs.Stream.{Fed, ArePackets, BeginsEmpty, EndsEmpty, PassesPacket, Stops};
 ghost use Rattle.soup_packets.specs.Stream.{packets_written};
 ghost use Rattle.soup_packets.specs.Front.{LendsPacket};
@@ -18,8 +18,8 @@ use crate::packet::Packet;
 use crate::view::PacketView;
 use std::alloc::{AllocError, AllocFailed, Global};
 use std::marker::Model;
-use stream_buffer::StreamBuffer;
 use thiserror::Error;
+use wire_streams::StreamBuffer;
 
 /// Why no packets were given.
 #[derive(Clone, Copy, Debug, PartialEq, Eq, Drop, Error)]
@@ -59,7 +59,7 @@ pub struct Packets {
 
 impl Model for Packets {
     ghost use Rattle.std.specs.Prelude.{◌≡◌, []};
-    ghost use Rattle.stream_buffer.specs.Buffer.{BytesHeld};
+    ghost use Rattle.wire_streams.specs.Buffer.{BytesHeld};
 
     ghost Value = { BytesHeld };
 

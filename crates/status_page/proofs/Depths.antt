@@ -3,8 +3,8 @@ use Rattle.std.proofs.Common.{◌≡◌, ◌≤◌, ℕ, List, [], ◌∷◌, re
 use Rattle.std.specs.Prelude.{Option, None, Some, drop, map}
 use Rattle.serde_json.specs.Data.{depth, items_depth}
 use Rattle.serde_json.specs.View.{items_of}
-use Rattle.status_board.specs.Rows.{ClientRow, PortRow}
-use Rattle.status_board.specs.declared.board.Shown.{Shown}
+use Rattle.gateway_watch.specs.Rows.{ClientRow, PortRow}
+use Rattle.gateway_watch.specs.declared.board.Shown.{Shown}
 use Rattle.status_page.specs.declared.day.DayNames.{DayNames}
 use Rattle.status_page.specs.Page.{first_name, next_number}
 use Rattle.status_page.specs.Json.{bare_data, client_data, client_items, client_members, end_data, link_data}

@@ -2,7 +2,7 @@
 use Rattle.std.specs.Prelude.{◌≡◌, refl, ℕ, true, false, List, [], ◌∷◌, ◌++◌, codes, decimal, Some, None}
 use Rattle.std.specs.Fmt.{digits}
 use Rattle.fixed_point.specs.Price.{price_text}
-use Rattle.status_board.specs.Rows.{ClientRow, PortRow, Down, LoggingIn, Up}
+use Rattle.gateway_watch.specs.Rows.{ClientRow, PortRow, Down, LoggingIn, Up}
 use Rattle.status_page.specs.declared.client_metric.ClientMetric.TheVariants as client
 use Rattle.status_page.specs.declared.port_metric.PortMetric.TheVariants as port
 use Rattle.status_page.specs.Html.{escaped}

@@ -6,8 +6,8 @@ use Rattle.std.specs.Prelude.{if◌then◌else◌}
 use Rattle.serde_json.specs.Data.{Data, null, boolean, number, unsigned, string, array, object, member, no_members}
 use Rattle.serde_json.specs.View.{items_of}
 use Rattle.fix_stamp.specs.Stamp.{stamp_text}
-use Rattle.status_board.specs.Rows.{ClientRow, PortRow}
-use Rattle.status_board.specs.declared.board.Shown.{Shown}
+use Rattle.gateway_watch.specs.Rows.{ClientRow, PortRow}
+use Rattle.gateway_watch.specs.declared.board.Shown.{Shown}
 use Rattle.status_page.specs.declared.day.DayNames.{DayNames}
 use Rattle.status_page.specs.Html.{is_shown}
 use Rattle.status_page.specs.Page.{first_name, next_number}

@@ -4,8 +4,8 @@
 use Rattle.std.specs.Prelude.{ℕ, ◌-◌, ◌/◌, ◌==◌, List, [], ◌∷◌, ◌++◌, map, drop, codes, decimal, Option, Some, None}
 use Rattle.std.specs.Prelude.{if◌then◌else◌}
 use Rattle.std.specs.List.{flat_map}
-use Rattle.status_board.specs.Rows.{ClientRow, PortRow}
-use Rattle.status_board.specs.declared.board.Shown.{Shown}
+use Rattle.gateway_watch.specs.Rows.{ClientRow, PortRow}
+use Rattle.gateway_watch.specs.declared.board.Shown.{Shown}
 use Rattle.status_page.specs.declared.day.DayNames.{DayNames}
 use Rattle.status_page.specs.declared.client_metric.ClientMetric.{ClientMetric}
 use Rattle.status_page.specs.declared.client_metric.ClientMetric.TheVariants as client

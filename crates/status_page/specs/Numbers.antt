@@ -1,6 +1,6 @@
 -- The numbers of clients and ports that metrics have.
 use Rattle.std.specs.Prelude.{ℕ, Bool, true, false, List, codes, if◌then◌else◌}
-use Rattle.status_board.specs.Rows.{ClientRow, PortRow, PortState, Faulted, is_up}
+use Rattle.gateway_watch.specs.Rows.{ClientRow, PortRow, PortState, Faulted, is_up}
 use Rattle.status_page.specs.declared.client_metric.ClientMetric.{ClientMetric}
 use Rattle.status_page.specs.declared.client_metric.ClientMetric.TheVariants as client
 use Rattle.status_page.specs.declared.port_metric.PortMetric.{PortMetric}

@@ -5,8 +5,8 @@ use Rattle.std.specs.Prelude.{ℕ, ◌+◌, ◌-◌, ◌^◌, ◌/◌, min, List
 use Rattle.std.specs.Prelude.{Option, Some, None, is_some, if◌then◌else◌}
 use Rattle.fix_stamp.specs.Stamp.{stamp_text}
 use Rattle.fixed_point.specs.Price.{price_text}
-use Rattle.status_board.specs.Rows.{ClientRow, PortRow, PortState, Down, LoggingIn, Up, Ended, Faulted, is_up}
-use Rattle.status_board.specs.declared.board.Shown.{Shown}
+use Rattle.gateway_watch.specs.Rows.{ClientRow, PortRow, PortState, Down, LoggingIn, Up, Ended, Faulted, is_up}
+use Rattle.gateway_watch.specs.declared.board.Shown.{Shown}
 use Rattle.status_page.specs.declared.day.DayNames.{DayNames}
 use Rattle.status_page.specs.Html.{escaped}
 use Rattle.status_page.specs.Words.{is_late, reason_of, state_name}

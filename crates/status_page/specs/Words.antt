@@ -1,8 +1,8 @@
 -- How a port stands, in words, and what is late.
 use Rattle.std.specs.Prelude.{ℕ, ◌-◌, nat_lt, Bool, List, [], codes, Option, Some, None}
-use Rattle.status_board.specs.Rows.{PortState, Down, LoggingIn, Up, Ended, Faulted}
-use Rattle.status_board.specs.Faults.{fault_name}
-use Rattle.status_board.specs.declared.board.Shown.{Shown}
+use Rattle.gateway_watch.specs.Rows.{PortState, Down, LoggingIn, Up, Ended, Faulted}
+use Rattle.gateway_watch.specs.Faults.{fault_name}
+use Rattle.gateway_watch.specs.declared.board.Shown.{Shown}
 use Rattle.status_page.specs.declared.day.DayNames.{DayNames}
 
 abbrev pub state_name : PortState → List ℕ

@@ -3,7 +3,7 @@
 ghost use Rattle.std.specs.Prelude.{◌≡◌};
 ghost use Rattle.status_page.specs.Numbers as spec;
 
-use status_board::ClientRow;
+use gate_core::ClientRow;
 
 /// A number of each client.
 #[derive(Clone, Copy)]

@@ -5,7 +5,7 @@ ghost use Rattle.status_page.specs.Page as spec;
 
 use crate::day::{first_name, other_names};
 use crate::pieces::{push_link, push_money, push_number, push_numbered, push_shares};
-use status_board::ClientRow;
+use gate_core::ClientRow;
 use std::alloc::AllocError;
 
 /// Adds the table of clients.

@@ -4,7 +4,7 @@ ghost use Rattle.std.specs.Prelude.{◌≡◌, ◌-◌, drop, map};
 ghost use Rattle.status_page.specs.Page as page;
 ghost use Rattle.status_page.specs.Words as spec;
 
-use status_board::Shown;
+use gateway_watch::Shown;
 
 /// How long a board may stay as it is, in milliseconds, before that is an alarm. It is put anew each second.
 const LONGEST_AGE: u64 = 5_000;

@@ -8,8 +8,8 @@ ghost use Rattle.status_page.specs.Json as spec;
 use crate::day::{DayNames, age_of};
 use crate::json_rows::{client_values, port_values};
 use crate::json_values::{end_value, moment_value, text_value};
+use gateway_watch::Shown;
 use serde_json::{Value, json};
-use status_board::Shown;
 use std::alloc::{AllocError, Global};
 
 /// A day's status as a text of JSON: `gateway`, `begun`, `ends`, and, once there is one, `at`, `age_ms`, `events`,

@@ -8,8 +8,8 @@ ghost use Rattle.status_page.specs.Json as spec;
 use crate::day::{first_name, other_names};
 use crate::json_values::{digits, link_value, printable, text_value};
 use crate::port_words::{reason_of, state_name};
+use gate_core::{ClientRow, PortRow};
 use serde_json::{Value, json};
-use status_board::{ClientRow, PortRow};
 use std::alloc::{AllocError, Global};
 
 /// The clients, in the order of the settings.

@@ -24,4 +24,3 @@ pub use escaping::push_escaped;
 pub use json::json_of;
 pub use metrics::metrics_of;
 pub use page::page_of;
-pub use status_board::{Shown, StatusBoard};

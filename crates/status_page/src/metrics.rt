@@ -6,8 +6,9 @@ ghost use Rattle.status_page.specs.Metrics as spec;
 use crate::client_metric::ClientMetric;
 use crate::day::{DayNames, first_name, other_names};
 use crate::port_metric::PortMetric;
+use gate_core::{ClientRow, PortRow};
+use gateway_watch::Shown;
 use itoa::Buffer;
-use status_board::{ClientRow, PortRow, Shown};
 use std::alloc::{AllocError, Global};
 
 /// The metrics of a day: each with a line for each client or port. Before anything is shown there is the start alone.

@@ -8,7 +8,7 @@ use crate::day::{DayNames, age_of, is_late};
 use crate::pieces::{push_count, push_told};
 use crate::ports::{push_alarms, push_ports};
 use fix_stamp::stamp;
-use status_board::Shown;
+use gateway_watch::Shown;
 use std::alloc::{AllocError, Global};
 
 /// What stands before the body. It fetches nothing, and asks for the page anew each five seconds. On a narrow screen

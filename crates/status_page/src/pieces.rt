@@ -8,7 +8,7 @@ use crate::escaping::push_escaped;
 use crate::port_words::reason_of;
 use fixed_point::PriceText;
 use itoa::Buffer;
-use status_board::PortState;
+use soup_session::PortState;
 use std::alloc::AllocError;
 
 /// Adds a word and a number.

@@ -5,7 +5,7 @@ ghost use Rattle.status_page.specs.Numbers as spec;
 
 use crate::client_metric::one_where;
 use crate::port_words::is_faulted;
-use status_board::PortRow;
+use gate_core::PortRow;
 
 /// A number of each port.
 #[derive(Clone, Copy)]

@@ -4,7 +4,8 @@ ghost use Rattle.std.specs.Prelude.{◌≡◌};
 ghost use Rattle.status_page.specs.Numbers as numbers;
 ghost use Rattle.status_page.specs.Words as spec;
 
-use status_board::{PortState, fault_name};
+use gateway_watch::fault_name;
+use soup_session::PortState;
 
 /// How a port stands, in words.
 pub(crate) fn state_name(state: PortState) -> &'static str

@@ -6,7 +6,8 @@ ghost use Rattle.status_page.specs.Page as spec;
 use crate::day::{first_name, other_names};
 use crate::pieces::{push_link, push_number, push_numbered, push_reason};
 use crate::port_words::state_name;
-use status_board::{PortRow, PortState};
+use gate_core::PortRow;
+use soup_session::PortState;
 use std::alloc::AllocError;
 
 /// Adds the ports that somebody has to look at: each that isn't up. The first row has this number.

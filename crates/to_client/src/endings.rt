@@ -23,9 +23,10 @@ use crate::pending::Pending;
 use crate::rejecting::cancel_reject;
 use crate::reporting::report_on;
 use crate::shown::{Request, Shown};
+use fix_fields::Text;
+use fix_types::{AppBody, Report};
 use fix_values::CxlRejReason;
-use order_law::Text;
-use orders::{AppBody, Replacing, Report};
+use orders::Replacing;
 use std::alloc::{AllocError, Global};
 
 /// A report as one body more. There is room before it is put there, so that it is moved once.

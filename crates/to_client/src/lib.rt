@@ -15,7 +15,6 @@ mod status;
 pub use endings::{
     push_cancel_rejected, push_canceled, push_not_replaced, push_report, push_too_late,
 };
-pub use fix_values::{Character, CxlRejReason};
 pub use from_orders::{pending_of, shown_of};
 pub use occasion::Occasion;
 pub use pending::Pending;

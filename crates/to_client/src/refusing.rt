@@ -7,9 +7,9 @@ ghost use Rattle.fix_values.specs.Reasons.{ord_rej_number};
 ghost use Rattle.order_law.specs.Told as law;
 ghost use Rattle.to_client.specs.Refusals.{refusal_of};
 
+use fix_fields::Text;
+use fix_types::{NewOrder, Report};
 use fix_values::{ClOrdId, ExecType, FieldValue, FloatText, OrdRejReason, OrdStatus};
-use order_law::Text;
-use orders::{NewOrder, Report};
 use std::alloc::{AllocError, Global};
 
 /// The report, with an OrderID (37) and an ExecID (17) of these numbers, that refuses a new order for a reason:

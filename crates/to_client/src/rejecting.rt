@@ -9,9 +9,9 @@ ghost use Rattle.to_client.specs.Shows.{IsRequest, ShowsAny, id_number};
 
 use crate::shown::{Request, Shown};
 use crate::status::status_or_rejected;
+use fix_fields::Text;
+use fix_types::CancelReject;
 use fix_values::{ClOrdId, CxlRejReason};
-use order_law::Text;
-use orders::CancelReject;
 use std::alloc::{AllocError, Global};
 
 /// The reject of a request, with a code (102) and a text (58): of one that is refused, or of a pending one that the

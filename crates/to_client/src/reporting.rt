@@ -11,10 +11,12 @@ ghost use Rattle.to_client.specs.Shows.{IsOccasion, ShowsAs, id_told, orig_told,
 use crate::occasion::{Details, Occasion, fields_given_by};
 use crate::shown::{Request, Shown};
 use crate::status::status_shown;
+use fix_fields::Text;
+use fix_types::Report;
 use fix_values::{ClOrdId, FieldValue};
 use fixed_point::average;
-use order_law::{Stage, Text};
-use orders::{Progress, Report};
+use order_law::Stage;
+use orders::Progress;
 use std::alloc::{AllocError, Global};
 
 /// The report, with an ExecID of this number, of what happened to an order that is then shown so. The market's letters

@@ -9,8 +9,8 @@ ghost use Rattle.to_client.specs.Shows.{IsRequest, ShowsAs, pending_type};
 use crate::occasion::plain;
 use crate::reporting::report_on;
 use crate::shown::{Request, Shown};
+use fix_types::Report;
 use fix_values::{CxlRejResponseTo, ExecType};
-use orders::Report;
 use std::alloc::{AllocError, Global};
 
 /// The report that an accepted request is pending: 150=E of a replace, 150=6 of a cancel. `shown` is the order as it

@@ -1,7 +1,8 @@
 //! An order and a request, as reports and rejects show them.
 
+use fix_types::{CancelRequest, ReplaceRequest};
 use fix_values::{Character, ClOrdId, CxlRejResponseTo};
-use orders::{CancelRequest, Progress, ReplaceRequest, Symbol};
+use orders::{Progress, Symbol};
 
 /// An order as a report or reject shows it: as it is after what the body reports.
 #[derive(Clone, Copy)]

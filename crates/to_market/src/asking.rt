@@ -20,9 +20,9 @@ use crate::limits::{
 };
 use crate::new_ask::NewAsk;
 use crate::refusal::Refusal;
+use fix_fields::Text;
 use fix_types::NewOrder;
 use fix_values::Character;
-use order_law::Text;
 use ouch_codec::{EnterOrder, Side};
 use tokens::Token;
 use wire_law::{are_visible, padded};

@@ -11,9 +11,9 @@ ghost use Rattle.to_market.specs.FieldRows.{is_none_of, is_no_minimum, price_rea
 ghost use Rattle.to_market.specs.FieldRows as fields;
 
 use crate::refusal::Refusal;
+use fix_fields::Text;
 use fix_values::{Character, FloatText};
 use fixed_point::{DecimalRefusal, Price4, Shares, parse_price, parse_qty};
-use order_law::Text;
 
 /// FIX's OrdType (40): limit.
 pub const LIMIT: u8 = b'2';

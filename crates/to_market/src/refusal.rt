@@ -10,9 +10,9 @@ ghost use Rattle.order_law.specs.fix_fields.Field.{IsValue};
 ghost use Rattle.fix_values.specs.Reasons.{cxl_rej_number, ord_rej_number};
 ghost use Rattle.to_market.specs.Refusals.{code_of, request_code_of, refusal_text, fixed_words};
 
+use fix_fields::Text;
 use fix_values::{CxlRejReason, OrdRejReason};
 use itoa::Buffer;
-use order_law::Text;
 use std::alloc::{AllocError, Global};
 
 /// Why a new order, a cancel or a replace isn't accepted: the first row of its table that holds.

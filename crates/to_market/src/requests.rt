@@ -26,9 +26,9 @@ use crate::named_order::NamedOrder;
 use crate::port_state::PortState;
 use crate::refusal::Refusal;
 use crate::replace_ask::ReplaceAsk;
+use fix_fields::Text;
 use fix_types::ReplaceRequest;
 use fix_values::Character;
-use order_law::Text;
 use ouch_codec::{Cancel, Replace};
 use tokens::Token;
 

@@ -9,8 +9,8 @@ use Rattle.std.proofs.Math.Nat.{pow-suc}
 use Rattle.std.proofs.lemmas.List.{drop_more, drop-set, length_push, same_from_push, take_all, take_more}
 use Rattle.std.proofs.lemmas.List.Folds.{list_all-append}
 use Rattle.std.proofs.lemmas.Str.Parse.{digit_at}
-use Rattle.decimal_digits.specs.Digits.{number_of, AreDigitsBelow}
-use Rattle.decimal_digits.proofs.Numbers.{own, number_of_more, number_of_short}
+use Rattle.wire_bytes.specs.Digits.{number_of, AreDigitsBelow}
+use Rattle.wire_bytes.proofs.Numbers.{own, number_of_more, number_of_short}
 use Rattle.wire_law.specs.Printable.{is_printable}
 use Rattle.tokens.specs.TokenText.{last_digits, token_text}
 

@@ -4,9 +4,9 @@ ghost use Rattle.std.specs.Prelude.{◌≡◌, ◌≢◌, ◌↔◌, ℕ, IsOk, 
 ghost use Rattle.wire_law.specs.Printable.{ArePrintable};
 ghost use Rattle.tokens.specs.TokenText.{HasToken, token_text};
 
-use decimal_digits::number_of;
 use std::marker::Model;
 use thiserror::Error;
+use wire_bytes::number_of;
 
 /// The number has no token: it is 0, or has more than 13 digits.
 #[derive(Clone, Copy, Debug, PartialEq, Eq, Drop, Error)]

@@ -7,7 +7,7 @@ use Rattle.std.proofs.lemmas.Option.{slice_get-get_or, slice_get_within}
 use Rattle.orders.specs.order_machine.OrderRecord.{OrderRecord}
 use Rattle.orders.specs.PutBack.{put_back}
 use Rattle.orders.specs.declared.earlier_order.EarlierOrder.{EarlierOrder}
-use Rattle.hint_index.specs.undo_list.Undoing.{IsWithin}
+use Rattle.undo_index.specs.Undoing.{IsWithin}
 use Rattle.orders.specs.order_trades.Marking.{changed_at}
 use Rattle.undo_orders.specs.PuttingBack.{restored, settled_of}
 use Rattle.undo_orders.specs.declared.list.Was.{Was}

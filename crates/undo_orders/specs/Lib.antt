@@ -2,5 +2,5 @@ pub mod PuttingBack
 pub use Rattle.orders.specs.order_machine.OrderRecord
 pub use Rattle.orders.specs.Changes
 pub use Rattle.orders.specs.Seen
-pub use Rattle.hint_index.specs.undo_list.Undoing
+pub use Rattle.undo_index.specs.Undoing
 pub use Rattle.orders.specs as orders

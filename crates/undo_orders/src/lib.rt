@@ -6,4 +6,3 @@
 mod list;
 
 pub use list::UndoOrders;
-pub use orders::{Boxed, Cancelling, Change, Order, Replaces, Replacing, Stage, is_same_token};

@@ -8,10 +8,13 @@ ghost use Rattle.orders.specs.Seen.{cancel_of, replace_of};
 ghost use Rattle.orders.specs.PutBack.{needs_memory, put_back};
 ghost use Rattle.orders.specs.order_trades.Marking.{changed_at};
 
-use hint_index::SettledList;
 use orders::{Boxed, Cancelling, Change, EarlierOrder, Order, Replacing};
 use std::alloc::{AllocError, Global};
 use std::marker::Model;
+use undo_index::SettledList;
+
+/// The room that the first order is given with: a list of so many is mapped memory, which grows without a copy.
+const AT_FIRST: usize = 1_024;
 
 /// What an order at a place had before it was changed.
 #[derive(Drop)]
@@ -45,7 +48,7 @@ impl Drop for UndoOrders {
 impl Model for UndoOrders {
     ghost use Rattle.std.specs.Prelude.{◌-◌, ◌≤◌, length, vec_len, vec_capacity};
     ghost use Rattle.orders.specs.order_machine.OrderRecord.{OrderRecord};
-    ghost use Rattle.hint_index.specs.undo_list.Undoing.{Undoable};
+    ghost use Rattle.undo_index.specs.Undoing.{Undoable};
     ghost use Rattle.undo_orders.specs.PuttingBack.{settled_of};
 
     ghost Value = { Undoable OrderRecord };
@@ -88,12 +91,15 @@ impl UndoOrders {
         &self.orders[place]
     }
 
-    /// Makes room for one order more. Nothing else changes, be there memory or not.
+    /// Makes room for one order more, at first for many. Nothing else changes, be there memory or not.
     pub fn reserve_push(&mut self) -> Result<(), AllocError>
         ensures room { OnOk result (1 ≤ self.new.pushes) }
         ensures now { self.new.now ≡ self.old.now }
         ensures settled { self.new.settled ≡ self.old.settled }
     {
+        if self.orders.capacity() == 0 {
+            return self.orders.reserve(AT_FIRST);
+        }
         self.orders.reserve(1)
     }
 

@@ -4,7 +4,8 @@ ghost use Rattle.std.specs.Prelude.{◌≡◌};
 
 use desk::{DeskName, Inlet, Parts, Shared, open_desk};
 use gate_core::{ClientNumber, Event};
-use script_steps::{Source, fixed_settings};
+use gate_events::Source;
+use script_steps::fixed_settings;
 use std::alloc::{AllocError, Global};
 use std::marker::Brand;
 use std::sync::Wait;

@@ -8,7 +8,9 @@ use crate::streams::size_of;
 use case_lines::{bytes_of, first_word};
 use desk::{Closed, DeskName, Finished, Inlet, Outlet, Parts, Shared, open_desk};
 use gate_core::{ClientNumber, Event, LinkOut};
-use script_steps::{History, Source, fixed_settings};
+use gate_events::Source;
+use gate_journal::History;
+use script_steps::fixed_settings;
 use std::alloc::{AllocError, Global};
 use std::marker::Brand;
 use std::sync::Wait;
@@ -79,11 +81,11 @@ fn make<K: DeskName, R: Wait + Clock>(
         "turn" => turn(rt, alloc, shared, shown),
         "turns" => turns(alloc, shared, small_number(rest).unwrap_or(0), shown),
         "waiting" => {
-            shared.ring_waiting(rt);
+            shared.wake_waiting(rt);
             Ok(())
         }
-        "ring" => {
-            shared.ring(size_of(rest));
+        "wake" => {
+            shared.wake(size_of(rest));
             Ok(())
         }
         "nap" => nap(rt, shared, rest, shown),
@@ -180,7 +182,7 @@ fn turns<K: DeskName>(
     show(shown, "steps", u64::from(turns.steps))
 }
 
-/// `OUTLET MOST`: waits at an outlet's bell, so many milliseconds at most, and shows whether it rang.
+/// `OUTLET MOST`: waits for an outlet's waker, so many milliseconds at most, and shows whether it was woken.
 fn nap<K: DeskName, R: Wait + Clock>(
     rt: &R,
     shared: &Shared<K>,
@@ -188,12 +190,12 @@ fn nap<K: DeskName, R: Wait + Clock>(
     shown: &mut Vec<u8>,
 ) -> Result<(), AllocError> {
     let (outlet, most) = first_word(said);
-    show_bell(rt, shared, size_of(outlet), size_of(most) as u64, shown)
+    show_wake(rt, shared, size_of(outlet), size_of(most) as u64, shown)
 }
 
-/// Waits at an outlet's bell, so many milliseconds at most, and shows whether it rang: the wait took less than half of
-/// them.
-pub fn show_bell<K: DeskName, R: Wait + Clock>(
+/// Waits for an outlet's waker, so many milliseconds at most, and shows whether it was woken: the wait took less than
+/// half of them.
+pub fn show_wake<K: DeskName, R: Wait + Clock>(
     rt: &R,
     shared: &Shared<K>,
     outlet: usize,
@@ -201,13 +203,13 @@ pub fn show_bell<K: DeskName, R: Wait + Clock>(
     shown: &mut Vec<u8>,
 ) -> Result<(), AllocError> {
     match time_of_nap(rt, shared, outlet, Duration::from_millis(most)) {
-        Ok(passed) if passed < Duration::from_millis(most / 2) => show_line("rang", shown),
-        Ok(_) => show_line("silent", shown),
+        Ok(passed) if passed < Duration::from_millis(most / 2) => show_line("woken", shown),
+        Ok(_) => show_line("asleep", shown),
         Err(_) => show_line("no clock", shown),
     }
 }
 
-/// How long a wait at an outlet's bell takes.
+/// How long a wait for an outlet's waker takes.
 fn time_of_nap<K: DeskName, R: Wait + Clock>(
     rt: &R,
     shared: &Shared<K>,

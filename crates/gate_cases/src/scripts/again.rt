@@ -1,7 +1,9 @@
 //! A script whose every step is undone and made again, and each step and each text once more where memory runs out.
 
+use gate_core::Core;
+use gate_events::{Batch, Event};
 use gate_lines::{Flags, batch_text, script_history};
-use script_steps::{Batch, Core, Event, fixed_settings};
+use script_steps::fixed_settings;
 use std::alloc::{AllocError, Global};
 use std::io::{self, ErrorKind, Read, Write};
 

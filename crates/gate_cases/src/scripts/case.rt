@@ -3,8 +3,8 @@
 use super::again::run_again;
 use super::between::{Named, push_line};
 use super::said::push_said;
+use case_lines::{Nothing, Seeded};
 use gate_lines::{Flags, audit_script, run_script, run_script_with};
-use other_hashers::{Nothing, Seeded};
 use std::alloc::{AllocError, Global};
 use std::hash::BuildHasher;
 

@@ -1,8 +1,8 @@
 //! Texts of a case, as its lines say them.
 
 use super::between::push_line;
-use decimal_digits::number_of;
 use std::alloc::AllocError;
+use wire_bytes::number_of;
 
 /// Where a text that is repeated stands.
 #[derive(Clone, Copy)]

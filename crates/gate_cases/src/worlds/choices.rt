@@ -1,8 +1,7 @@
 //! Choices of a market, as a line writes them.
 
 use case_lines::{first_word, number_of};
-use closed_world::{Choice, Trading};
-use market_book::{Breaking, Letter, Removal};
+use market_law::{Breaking, Choice, Letter, Removal, Trading};
 use tokens::Token;
 
 /// `live`, `dead`, `refuse LETTER`, `nothing`, `trade TOKEN SHARES PRICE`, `off TOKEN SHARES`, `break NUMBER`, `event

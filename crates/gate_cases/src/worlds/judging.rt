@@ -3,7 +3,11 @@
 use super::order::judge_orders;
 use super::show;
 use super::sums::Sums;
-use random_world::{Played, ReadingFault, Settings, WorldStep, counts_of, play};
+use closed_world::WorldStep;
+use gate_audit::{Played, play};
+use gate_settings::Settings;
+use order_accounts::ReadingFault;
+use random_world::counts_of;
 use std::alloc::{AllocError, Global};
 use std::io::{self, ErrorKind};
 

@@ -2,11 +2,12 @@
 //! pending, and whether a fill or kill was filled in part.
 
 use super::sums::{Sums, add};
-use decimal_digits::number_of;
 use fix_fields::FieldsView;
+use gate_audit::Played;
 use gate_events::{Batch, ClientFrame, Event, LinkOut};
-use random_world::{BookRow, Played};
+use market_law::BookRow;
 use std::alloc::{AllocError, Global};
+use wire_bytes::number_of;
 
 /// An order, as its client's accepted messages and the reports have it.
 #[derive(Drop)]

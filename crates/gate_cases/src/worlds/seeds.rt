@@ -3,10 +3,10 @@
 use super::judging::{Named, judge};
 use super::show;
 use super::sums::Sums;
-use decimal_digits::number_of;
 use random_world::{Shape, random_steps, show_world, world_settings};
 use std::alloc::{AllocError, Global};
 use std::io;
+use wire_bytes::number_of;
 
 /// `FIRST LAST STEPS CLIENTS PORTS`: the worlds of these seeds, and a line of sums; false where the text isn't so. A
 /// world that isn't right has a line of its own in front.

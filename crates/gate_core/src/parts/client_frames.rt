@@ -14,9 +14,8 @@ use super::Parts;
 use super::client_messages::Asked;
 use fix_session::{SessionOut, SessionTurn, application_of};
 use fix_types::AppMsg;
-use gate_events::{Batch, ClientFrame, ClientNumber, PortNumber};
+use gate_events::{Batch, ClientFrame, ClientNumber, PortNumber, ShortList};
 use gate_sessions::{Issues, told_client, told_port};
-use short_list::ShortList;
 use std::alloc::{AllocError, Global};
 use std::hash::BuildHasher;
 

@@ -12,9 +12,8 @@ ghost use Rattle.gate_core.specs.Expected.{logon_fault_now, next_expected};
 use super::{Parts, place_of};
 use fix_fields::Fields;
 use fix_session::LogonFault;
-use gate_events::{Batch, ClientNumber};
+use gate_events::{Batch, ClientNumber, ShortList};
 use gate_sessions::{only_outs, told_client};
-use short_list::ShortList;
 use std::alloc::{AllocError, Global};
 use std::hash::BuildHasher;
 

@@ -14,11 +14,10 @@ ghost use Rattle.gate_core.specs.Steps.{Grows, IsAsked, IsIssued, IsSent, IsTurn
 
 use super::Parts;
 use fix_types::{AppBody, AppMsg};
-use gate_events::LinkOut;
+use gate_events::{LinkOut, ShortList};
 use gate_sessions::{Issues, client_issue_all, port_send_all};
 use order_core::{CoreOut, PortState};
 use ouch_codec::Inbound;
-use short_list::ShortList;
 use std::alloc::{AllocError, Global};
 use std::hash::BuildHasher;
 

@@ -14,9 +14,8 @@ ghost use Rattle.gate_core.specs.Expected.{fault_now};
 
 use super::port_packets::fault_of;
 use super::{Parts, place_of};
-use gate_events::{Batch, PortNumber};
+use gate_events::{Batch, PortNumber, ShortList};
 use gate_sessions::told_port;
-use short_list::ShortList;
 use soup_session::{PortFault, PortState};
 use std::alloc::{AllocError, Global};
 use std::hash::BuildHasher;

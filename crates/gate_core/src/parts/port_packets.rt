@@ -15,10 +15,9 @@ ghost use Rattle.gate_core.specs.Steps.{Grows, AfterPacket, Ready, Stepped};
 ghost use Rattle.gate_core.specs.Hearing.{IsSentAgain};
 
 use super::Parts;
-use gate_events::{Batch, LinkOut, PortNumber};
-use gate_law::Packet;
+use gate_events::{Batch, LinkOut, PortNumber, ShortList};
 use gate_sessions::told_port;
-use short_list::ShortList;
+use soup_packets::Packet;
 use soup_session::{PortFault, PortOut, PortState, PortTurn};
 use std::alloc::{AllocError, Global};
 use std::hash::BuildHasher;

@@ -4,7 +4,7 @@ ghost use Rattle.std.specs.Prelude.{◌≡◌, ◌<◌, ◌+◌, ◌&&◌, ℕ, 
 ghost use Rattle.std.specs.Prelude.{is_some, option_to_list, IfOk, IfSome};
 ghost use Rattle.order_core.specs.State.{CoreHasRoom};
 ghost use Rattle.order_core.specs.order_machine.Runs.{NumbersLeft};
-ghost use Rattle.order_core.specs.order_ledger.Seen.{client_seen};
+ghost use Rattle.order_core.specs.Seen.{client_seen};
 ghost use Rattle.gate_law.specs.Settings.{Settings};
 ghost use Rattle.gate_law.specs.Lists.{Lists, port_called};
 ghost use Rattle.gate_law.specs.Events.{PortPacket};
@@ -21,10 +21,9 @@ ghost use Rattle.gate_core.specs.Steps.{Stepped};
 
 use super::{Parts, place_of};
 use fix_types::AppBody;
-use gate_events::{Batch, ClientNumber, PortNumber};
+use gate_events::{Batch, ClientNumber, PortNumber, ShortList};
 use gate_sessions::{Issues, told_client, told_out, told_port};
 use order_core::{MarketError, MarketFault};
-use short_list::ShortList;
 use soup_session::{PortFault, PortOut, PortState};
 use std::alloc::{AllocError, Global};
 use std::hash::BuildHasher;

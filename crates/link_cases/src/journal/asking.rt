@@ -3,9 +3,8 @@
 use super::reading::pushed_again;
 use super::words::first_number;
 use case_lines::first_word;
-use gate_journal::{
-    Batch, ClientNumber, Event, History, LinkOut, PortNumber, Recipient, Source, Told,
-};
+use gate_events::{Batch, ClientNumber, Event, LinkOut, Output, PortNumber, Recipient, Source};
+use gate_journal::History;
 use std::alloc::{AllocError, Global};
 use std::str;
 
@@ -130,7 +129,7 @@ fn parts_of(event: &Event) -> (&'static str, u16, Option<u64>, u64) {
 }
 
 /// Shows lists, each in brackets.
-fn show_lists(lists: &[Told], shown: &mut String) -> Result<(), AllocError> {
+fn show_lists(lists: &[Output], shown: &mut String) -> Result<(), AllocError> {
     for list in lists {
         shown.push_str(" [")?;
         show_list(list.as_slice(), shown)?;

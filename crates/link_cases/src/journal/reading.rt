@@ -2,9 +2,11 @@
 
 use super::records::{front_size, split};
 use super::tally::Outcome;
-use gate_journal::{Batch, Event, History, PageFault};
-use journal_pages::{Page, WholeWire};
+use gate_events::{Batch, Event};
+use gate_journal::History;
+use journal_pages::{Page, PageFault};
 use std::alloc::{AllocError, Global};
+use wire_law::WholeWire;
 
 /// What pages are read as.
 #[derive(Clone, Copy)]

@@ -1,6 +1,7 @@
 //! A batch that is longer than a page.
 
-use gate_journal::{Batch, ClientNumber, Event, History, LinkOut, PortNumber, ShortList};
+use gate_events::{Batch, ClientNumber, Event, LinkOut, PortNumber, ShortList};
+use gate_journal::History;
 use std::alloc::{AllocError, Global};
 
 /// Whether a resend's event, behind a tick, takes five pages, of which the first begins as before; or, where memory is

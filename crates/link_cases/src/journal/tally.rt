@@ -1,6 +1,6 @@
 //! What came of changed pages.
 
-use gate_journal::PageFault;
+use journal_pages::PageFault;
 use std::fmt;
 
 /// What reading pages comes to.

@@ -1,9 +1,9 @@
 //! The words of a line, and the bytes that they say.
 
 use case_lines::first_word;
-use decimal_digits::number_of;
-use gate_journal::PageFault;
+use journal_pages::PageFault;
 use std::alloc::{AllocError, Global};
+use wire_bytes::number_of;
 
 /// The number of a text's first word, and what stands behind it.
 pub fn first_number(text: &str) -> Option<(u64, &str)> {

@@ -177,14 +177,14 @@ fn making_of(text: &[u8]) -> Option<(Making, u64, u64)> {
     let (seed, count) = words_of(rest)?;
     Some((
         making,
-        decimal_digits::number_of(seed)?,
-        decimal_digits::number_of(count)?,
+        wire_bytes::number_of(seed)?,
+        wire_bytes::number_of(count)?,
     ))
 }
 
 /// `steps COUNT`.
 fn steps_of(text: &[u8]) -> Option<u64> {
-    decimal_digits::number_of(text.strip_prefix(b"steps ")?)
+    wire_bytes::number_of(text.strip_prefix(b"steps ")?)
 }
 
 /// What stands before the first space, and behind it.

@@ -2,7 +2,8 @@
 
 use super::gate::Kept;
 use super::tally::print_count;
-use link_io::{ClientNumber, ClientReader, LinkFault, Progress};
+use gate_events::ClientNumber;
+use link_io::{ClientReader, LinkFault, Progress};
 use seeded_choices::Chance;
 use std::alloc::{AllocError, Global};
 use std::io::{self, Read};

@@ -3,7 +3,8 @@
 ghost use Rattle.std.specs.Prelude.{◌≡◌, [], map, IfOk};
 ghost use Rattle.gate_events.specs.Seen.{link_out_seen};
 
-use link_io::{Event, Gate, LinkOut, ShortList};
+use gate_events::{Event, LinkOut, ShortList};
+use link_io::Gate;
 use seeded_choices::Chance;
 use std::alloc::{AllocError, Global};
 use std::sync::Wait;

@@ -6,9 +6,8 @@ use super::plain_packets::read_packets;
 use super::recorded::Form;
 use super::streams::Pieces;
 use super::tally::Tally;
-use link_io::{
-    ClientNumber, ClientReader, Decoder, Event, LinkFault, PortNumber, PortReader, Progress, Reader,
-};
+use gate_events::{ClientNumber, Event, PortNumber};
+use link_io::{ClientReader, Decoder, LinkFault, PortReader, Progress, Reader};
 use seeded_choices::Chance;
 use std::alloc::{AllocError, Global};
 

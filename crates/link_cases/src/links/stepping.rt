@@ -4,14 +4,12 @@ use super::cases::words_of;
 use super::gate::Kept;
 use super::limited::Limited;
 use super::tally::print_count;
-use decimal_digits::number_of;
-use link_io::{
-    BatchWriter, ClientNumber, ClientReader, Decoder, Event, LinkFault, LinkOut, PortNumber,
-    PortReader, Progress, Reader, ShortList, Wrote,
-};
+use gate_events::{ClientNumber, Event, LinkOut, PortNumber, ShortList};
+use link_io::{BatchWriter, ClientReader, Decoder, LinkFault, PortReader, Progress, Reader, Wrote};
 use seeded_choices::Chance;
 use std::alloc::{AllocError, Global};
 use std::sync::atomic::Ordering;
+use wire_bytes::number_of;
 
 /// The client, the port, and the link of both.
 const CLIENT: u16 = 2;

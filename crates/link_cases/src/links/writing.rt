@@ -4,7 +4,8 @@ use super::gate::Kept;
 use super::recorded::one_of;
 use super::streams::Torn;
 use super::tally::Tally;
-use link_io::{BatchWriter, LinkFault, LinkOut, ShortList};
+use gate_events::{LinkOut, ShortList};
+use link_io::{BatchWriter, LinkFault};
 use seeded_choices::Chance;
 use std::alloc::{AllocError, Global};
 
@@ -30,38 +31,38 @@ pub fn write_lists(
     tally: &mut Tally,
 ) -> Result<(), AllocError> {
     let lists = lists_of(alloc, chance, units)?;
-    let told = told_by(alloc, lists.as_slice())?;
-    write_told(alloc, chance, lists, &told, tally)
+    let expected = expected_of(alloc, lists.as_slice())?;
+    write_expected(alloc, chance, lists, &expected, tally)
 }
 
 /// What lists tell the link, and whether one closes it.
 #[derive(Drop)]
-struct Told {
+struct Expected {
     bytes: Vec<u8>,
     is_closing: bool,
 }
 
 /// What the lists tell the link, the last list first, up to one that closes it.
-fn told_by(alloc: Global, lists: &[ShortList<LinkOut>]) -> Result<Told, AllocError> {
+fn expected_of(alloc: Global, lists: &[ShortList<LinkOut>]) -> Result<Expected, AllocError> {
     let mut bytes = Vec::new(alloc);
     let is_closing = tell_all(lists, &mut bytes)?;
-    Ok(Told { bytes, is_closing })
+    Ok(Expected { bytes, is_closing })
 }
 
 /// Writes lists that tell the link this, and counts them.
-fn write_told(
+fn write_expected(
     alloc: Global,
     chance: &mut Chance,
     lists: Vec<ShortList<LinkOut>>,
-    told: &Told,
+    expected: &Expected,
     tally: &mut Tally,
 ) -> Result<(), AllocError> {
     let count = lists.len();
-    let mut output = torn(alloc, chance, told.bytes.len())?;
+    let mut output = torn(alloc, chance, expected.bytes.len())?;
     let mut gate = Kept::new(alloc, chance.next(), 2);
     gate.lists = lists;
     let ended = write_all(alloc, &mut output, &mut gate);
-    let is_same = is_written(ended, told, output.taken.as_slice());
+    let is_same = is_written(ended, expected, output.taken.as_slice());
     tally.count(count, ended.is_none(), is_same);
     Ok(())
 }
@@ -77,10 +78,10 @@ fn torn(alloc: Global, chance: &mut Chance, size: usize) -> Result<Torn, AllocEr
 }
 
 /// Whether these bytes are what was told, where the link was closed or nothing was left, or a beginning of that.
-fn is_written(ended: Option<bool>, told: &Told, taken: &[u8]) -> bool {
+fn is_written(ended: Option<bool>, expected: &Expected, taken: &[u8]) -> bool {
     match ended {
-        Some(is_closed) => is_closed == told.is_closing && taken == told.bytes.as_slice(),
-        None => told.bytes.as_slice().starts_with(taken),
+        Some(is_closed) => is_closed == expected.is_closing && taken == expected.bytes.as_slice(),
+        None => expected.bytes.as_slice().starts_with(taken),
     }
 }
 
@@ -137,9 +138,9 @@ fn out_of(alloc: Global, chance: &mut Chance, units: &[Vec<u8>]) -> Result<LinkO
 }
 
 /// What the lists tell the link, the last list first, up to one that closes it; whether one does.
-fn tell_all(lists: &[ShortList<LinkOut>], told: &mut Vec<u8>) -> Result<bool, AllocError> {
+fn tell_all(lists: &[ShortList<LinkOut>], expected: &mut Vec<u8>) -> Result<bool, AllocError> {
     for list in lists.iter().rev() {
-        if tell(list.as_slice(), told)? {
+        if tell(list.as_slice(), expected)? {
             return Ok(true);
         }
     }
@@ -147,12 +148,12 @@ fn tell_all(lists: &[ShortList<LinkOut>], told: &mut Vec<u8>) -> Result<bool, Al
 }
 
 /// What a list tells the link; whether it closes it.
-fn tell(list: &[LinkOut], told: &mut Vec<u8>) -> Result<bool, AllocError> {
+fn tell(list: &[LinkOut], expected: &mut Vec<u8>) -> Result<bool, AllocError> {
     let mut is_closing = false;
     for out in list {
         match out {
             LinkOut::Write { link, bytes } if *link == LINK => {
-                told.extend_from_slice(bytes.as_slice())?;
+                expected.extend_from_slice(bytes.as_slice())?;
             }
             LinkOut::Close { link } if *link == LINK => is_closing = true,
             _ => {}

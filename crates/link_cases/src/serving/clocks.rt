@@ -1,6 +1,7 @@
 //! A clock over a system whose time goes back.
 
-use link_sockets::{Clock, SystemClock};
+use gate_workers::Clock;
+use link_sockets::SystemClock;
 use std::alloc::{AllocError, Global};
 use std::io;
 use std::sync::atomic::{AtomicUsize, Ordering};

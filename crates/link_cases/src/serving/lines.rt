@@ -18,7 +18,7 @@ pub struct Sleeping<'a, R> {
 impl<'a, R: time::Clock> Clock for Sleeping<'a, R> {
     ghost use Rattle.std.specs.Prelude.{None};
 
-    ghost told = { λ _. None };
+    ghost reported = { λ _. None };
 
     fn now_ms(&mut self) -> u64 {
         self.moment = self.moment.saturating_add(1);

@@ -1,9 +1,11 @@
 //! A market, and the packets that it gives.
 
 use super::packets::show_packet;
-use market_sim::{Choice, Packet, Payload, Sim, SimEvent, Trading};
-use soup_packets::WholeWire;
+use market_law::{Choice, Trading};
+use market_sim::{Sim, SimEvent};
+use soup_packets::{Packet, Payload};
 use std::alloc::{AllocError, Global};
+use wire_law::WholeWire;
 
 /// Makes a call of a market, and shows the packets that it gives, each in a line. False where it can't be made.
 pub fn step(

@@ -1,7 +1,8 @@
 //! Packets, made and shown.
 
-use soup_packets::{Packet, Payload, WholeWire};
+use soup_packets::{Packet, Payload};
 use std::alloc::{AllocError, Global};
+use wire_law::WholeWire;
 
 /// A packet of a type and these bytes; none where they are too many.
 pub fn packet_of(alloc: Global, kind: u8, bytes: &[u8]) -> Result<Option<Packet>, AllocError> {

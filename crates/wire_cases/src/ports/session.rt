@@ -1,11 +1,12 @@
 //! A port's session, and what it gives.
 
 use super::packets::{copies_of, packet_of, show_packet};
-use decimal_digits::number_of;
 use itoa::Buffer;
-use soup_packets::{Packet, Payload, WholeWire};
+use soup_packets::{Packet, Payload};
 use soup_session::{PortFault, PortOut, PortSession, PortState, PortTurn};
 use std::alloc::{AllocError, Global};
+use wire_bytes::number_of;
+use wire_law::WholeWire;
 
 /// A session, and the moment of its next call.
 pub struct Stepped {

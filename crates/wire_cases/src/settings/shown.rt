@@ -1,7 +1,8 @@
 //! What a file says.
 
 use super::reading::refused;
-use settings_file::{Settings, SettingsFile, read};
+use gate_settings::Settings;
+use settings_file::{SettingsFile, read};
 use std::alloc::{AllocError, Global};
 use std::str;
 

@@ -4,8 +4,8 @@ use super::put_byte;
 use super::reader::{Counts, Front, UnitReader, Way};
 use super::streams::{self, verdict};
 use case_lines::shown;
-use fix_fields::{is_value, split};
-use fix_framing::{Fields, FrameFault, Framer, frame, front_body};
+use fix_fields::{Fields, is_value, split};
+use fix_framing::{FrameFault, Framer, frame, front_body};
 use std::alloc::{AllocError, Global};
 
 /// What a call on bytes of frames answers.

@@ -3,8 +3,9 @@
 use super::reader::{Counts, Front, UnitReader, Way};
 use super::streams;
 use case_lines::shown;
-use soup_packets::{Packet, PacketFault, Packets, Payload, WholeWire};
+use soup_packets::{Packet, PacketFault, Packets, Payload};
 use std::alloc::{AllocError, Global};
+use wire_law::WholeWire;
 
 /// What a call on bytes of packets answers.
 pub fn answer(alloc: Global, call: &str, text: &str, bytes: &[u8]) -> Result<String, AllocError> {

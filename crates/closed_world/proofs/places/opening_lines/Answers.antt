@@ -1,8 +1,8 @@
 use Rattle.std.proofs.Common.{◌≡◌, ◌++◌, ◌∷◌, [], List, length, ap, subst, arith, length-append, Some}
 use Rattle.std.specs.Prelude.{slice_get}
-use Rattle.world_ports.specs.Lines.{line_seen, opening_line}
-use Rattle.world_ports.specs.declared.port_line.PortLine.{PortLine}
-use Rattle.world_ports.proofs.Places.{each-pushed}
+use Rattle.closed_world.specs.Lines.{line_seen, opening_line}
+use Rattle.closed_world.specs.declared.port_line.PortLine.{PortLine}
+use Rattle.closed_world.proofs.LinePlaces.{each-pushed}
 use Rattle.closed_world.proofs.places.opening_lines.Goals as goal
 
 pub loop-preserved : goal.loop-preserved

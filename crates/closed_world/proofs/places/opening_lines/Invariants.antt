@@ -1,6 +1,6 @@
 -- So many so far, and nothing has come to any.
 use Rattle.std.proofs.Common.{◌≡◌, length}
-use Rattle.world_links.specs.World.{opening_world}
+use Rattle.world_law.specs.World.{opening_world}
 use Rattle.closed_world.specs.Worlds.{AreLines}
 use Rattle.closed_world.proofs.places.opening_lines.Given as goal
 

@@ -1,7 +1,7 @@
 use Rattle.std.proofs.Common.{List, ap, subst, ◌∙◌}
 use Rattle.std.specs.Prelude.{map}
 use Rattle.desk_rings.specs.Made.{inlet_name}
-use Rattle.desk_ends.specs.Rings.{NamedInlet, NamedOutlet}
+use Rattle.desk_rings.specs.Rings.{NamedInlet, NamedOutlet}
 use Rattle.desk_steps.specs.Agreeing.{Agrees}
 use Rattle.desk.specs.Offered.{Offered}
 use Rattle.desk.proofs.opening.open_desk.Goals as goal

@@ -2,10 +2,10 @@ use Rattle.std.proofs.Common.{◌≡◌, ◌∙◌, ◌==◌, ◌++◌, List, �
 use Rattle.std.proofs.lemmas.Bool.Decides.{nat_tests}
 use Rattle.journal_pages.specs.declared.version.Version.TheVariants.{Two}
 use Rattle.journal_file.specs.File.{sized_pages}
-use Rattle.host_log.specs.Seen.{host_may_leave, host_seen}
-use Rattle.host_log.specs.Whole.{HasJust}
-use Rattle.host_log.specs.declared.host_file.HostFile.{HostFile}
-use Rattle.turn_log.specs.Kept.{HasAll}
+use Rattle.journal_log.specs.Seen.{host_may_leave, host_seen}
+use Rattle.journal_log.specs.Whole.{HasJust}
+use Rattle.journal_log.specs.declared.host_file.HostFile.{HostFile}
+use Rattle.journal_log.specs.Kept.{HasAll}
 use Rattle.desk.proofs.Again.{IsFront, empty-front, file-has, named-front, same-just}
 use Rattle.desk.proofs.replaying.replay.Goals.{then-is_named, else-is_named}
 use Rattle.desk.proofs.replaying.replay.Goals as goal
@@ -15,7 +15,7 @@ no-size n e = grind (arith, nat_tests)
 
 pub go_on-requires : goal.go_on-requires
 go_on-requires g c =
-    let told : List (List ℕ) = c.step_file.new.reader.told in
+    let told : List (List ℕ) = c.step_file.new.reader.yielded in
     let file : List ℕ = c.step_file.new.reader.read in
     let is : c.step_file.new.written ≡ sized_pages Two told = c.in_ok-ending.ensures.written in
     let front : IsFront file told = elim c.if-is_named.branch [
@@ -28,7 +28,7 @@ go_on-requires g c =
 
 pub begin_journal-requires : goal.begin_journal-requires
 begin_journal-requires g c =
-    let told : List (List ℕ) = c.step_file.new.reader.told in
+    let told : List (List ℕ) = c.step_file.new.reader.yielded in
     let file : List ℕ = c.step_file.new.reader.read in
     let is : c.step_file.new.written ≡ sized_pages Two told = c.in_ok-ending.ensures.written in
     let front : IsFront file told = elim c.if-is_named.branch [

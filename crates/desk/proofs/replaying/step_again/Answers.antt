@@ -12,13 +12,13 @@ returns-in_err-turned g c = record {
 pub returns-then-turned-eq0 : goal.returns-then-turned-eq0
 returns-then-turned-eq0 g c = record {
   goes_on = subst (λ (s : DeskState). HistoryGoesOn c.args.desk.now.recorded s.recorded)
-      (sym (c.take_waiting.ensures ∙ c.take_rung.ensures))
+      (sym (c.take_waiting.ensures ∙ c.take_prompt.ensures))
       (round-on c.round.result c.args.desk.now c.round.new.self c.round.ensures.ok c.round.ensures.err).history;
 }
 
 pub returns : goal.returns
 returns g c = record {
   goes_on = subst (λ (s : DeskState). HistoryGoesOn c.args.desk.now.recorded s.recorded)
-      (sym (c.take_waiting.ensures ∙ c.take_rung.ensures))
+      (sym (c.take_waiting.ensures ∙ c.take_prompt.ensures))
       (round-on c.round.result c.args.desk.now c.round.new.self c.round.ensures.ok c.round.ensures.err).history;
 }

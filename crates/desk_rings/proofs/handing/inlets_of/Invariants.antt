@@ -1,6 +1,6 @@
 use Rattle.std.proofs.Common.{◌≡◌, ℕ, [], length, map, drop, slice_get, Some, ◌+◌}
 use Rattle.std.specs.Prelude.{All}
-use Rattle.desk_ends.specs.Rings.{Putting}
+use Rattle.desk_rings.specs.Rings.{Putting}
 use Rattle.desk_rings.specs.Made.{IsFreshEvents, inlet_name}
 use Rattle.desk_rings.proofs.handing.inlets_of.Given as goal
 

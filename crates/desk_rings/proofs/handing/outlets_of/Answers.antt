@@ -1,6 +1,6 @@
 use Rattle.std.proofs.Common.{◌≡◌, ◌∙◌, ◌+◌, ◌∷◌, length, map, drop, sym, ap, arith, length-append, suc, []}
 use Rattle.std.specs.Prelude.{All}
-use Rattle.desk_ends.specs.Rings.{Taking}
+use Rattle.desk_rings.specs.Rings.{Taking}
 use Rattle.desk_rings.specs.Made.{IsFreshLists, outlet_name}
 use Rattle.desk_rings.proofs.Rows.{first-behind, each-and-one}
 use Rattle.desk_rings.proofs.handing.outlets_of.Goals as goal

@@ -1,16 +1,18 @@
 use Rattle.std.proofs.Common.{◌≡◌, ◌<◌, ◌∙◌, List, length, Some, slice_get, slice_set, get_or, ap, sym, arith}
 use Rattle.std.proofs.lemmas.Option.{slice_get-get_or}
 use Rattle.std.proofs.lemmas.List.{set-get_or}
-use Rattle.desk_side.specs.desk_ends.Rings.{Done}
-use Rattle.desk_side.proofs.Moves.{ways-twice}
-use Rattle.desk_steps.proofs.Comparing.{one-begun, one-told, seat-names, seats-twice, way-names}
+use Rattle.desk_side.specs.desk_rings.Rings.{Done}
+use Rattle.desk_side.proofs.Moves.{producers-twice}
+use Rattle.desk_steps.proofs.Comparing.{one-begun, one-borne-out, consumer-names, consumers-twice, producer-names}
 use Rattle.desk_steps.proofs.closing.compare_all.Goals as goal
 
 pub compare-requires : goal.compare-requires
 compare-requires g c = record {
-  seats = seat-names c.args.side.now.seats c.loop-i.side.seats g.K.DeskName.inlets c.loop-i.invariant.seats
-      c.requires.seats;
-  ways = way-names c.args.side.now.ways c.loop-i.side.ways g.K.DeskName.outlets c.loop-i.invariant.ways c.requires.ways;
+  consumers = consumer-names c.args.side.now.consumers c.loop-i.side.consumers g.K.DeskName.inlets
+      c.loop-i.invariant.consumers
+      c.requires.consumers;
+  producers = producer-names c.args.side.now.producers c.loop-i.side.producers g.K.DeskName.outlets
+      c.loop-i.invariant.producers c.requires.producers;
 }
 
 pub loop-i-preserved : goal.loop-i-preserved
@@ -27,16 +29,21 @@ loop-i-preserved g c =
     ∙ (slice_get-get_or now i one inside ∙ ap Some (sym is)) in
     record {
       same = same ∙ c.loop-i.invariant.same;
-      seats = seats-twice c.args.side.now.seats c.loop-i.side.seats c.compare.new.self.seats c.loop-i.invariant.seats
-          c.compare.ensures.seats;
-      ways = ways-twice c.args.side.now.ways c.loop-i.side.ways c.compare.new.self.ways c.loop-i.invariant.ways
-          c.compare.ensures.ways;
+      consumers = consumers-twice c.args.side.now.consumers c.loop-i.side.consumers c.compare.new.self.consumers
+          c.loop-i.invariant.consumers
+          c.compare.ensures.consumers;
+      producers = producers-twice c.args.side.now.producers c.loop-i.side.producers c.compare.new.self.producers
+          c.loop-i.invariant.producers
+          c.compare.ensures.producers;
       clients = c.compare.ensures.counts.0 ∙ c.loop-i.invariant.clients;
       ports = c.compare.ensures.counts.1 ∙ c.loop-i.invariant.ports;
-      begun = one-begun i c.args.finished.now.items one c.loop-i.side.seats c.compare.new.self.seats
-          c.compare.new.self.ways here c.compare.ensures.seats c.compare.ensures.told c.loop-i.invariant.begun;
-      told = λ begun. one-told i c.args.finished.now.items one c.args.side.now.seats c.loop-i.side.seats
-          c.compare.new.self.seats c.loop-i.side.ways c.compare.new.self.ways
-          here c.loop-i.invariant.seats c.compare.ensures.seats c.compare.ensures.others c.compare.ensures.ways
-          c.compare.ensures.told begun (c.loop-i.invariant.told begun);
+      begun = one-begun i c.args.finished.now.items one c.loop-i.side.consumers c.compare.new.self.consumers
+          c.compare.new.self.producers here c.compare.ensures.consumers c.compare.ensures.borne_out
+          c.loop-i.invariant.begun;
+      borne_out = λ begun. one-borne-out i c.args.finished.now.items one c.args.side.now.consumers
+          c.loop-i.side.consumers
+          c.compare.new.self.consumers c.loop-i.side.producers c.compare.new.self.producers
+          here c.loop-i.invariant.consumers c.compare.ensures.consumers c.compare.ensures.others
+          c.compare.ensures.producers
+          c.compare.ensures.borne_out begun (c.loop-i.invariant.borne_out begun);
     }

@@ -9,8 +9,8 @@ pub loop-init : goal.loop-init
 loop-init g c = record {
   agrees = λ inlets outlets h. h;
   goes_on = goes-nowhere c.args.recorded.now;
-  holds = holds-none c.args.side.now.ways;
-  shrinks = shrinks-none c.args.side.now.seats;
+  holds = holds-none c.args.side.now.producers;
+  shrinks = shrinks-none c.args.side.now.consumers;
   knows = λ a at. omega (arith, c.known-left.ensures a at);
 }
 
@@ -30,9 +30,11 @@ loop-preserved g c =
           (c.loop.invariant.agrees inlets outlets h);
       goes_on = goes-further c.args.recorded.now c.loop.recorded c.drain_one.new.recorded c.loop.invariant.goes_on
           (drained-goes c.args.place s t did);
-      holds = holds-twice c.args.side.now.ways c.loop.side.ways c.drain_one.new.side.ways c.loop.invariant.holds
+      holds = holds-twice c.args.side.now.producers c.loop.side.producers c.drain_one.new.side.producers
+          c.loop.invariant.holds
           (drained-holds c.args.place s t did);
-      shrinks = shrinks-more c.args.side.now.seats c.loop.side.seats c.drain_one.new.side.seats c.loop.invariant.shrinks
+      shrinks = shrinks-more c.args.side.now.consumers c.loop.side.consumers c.drain_one.new.side.consumers
+          c.loop.invariant.shrinks
           (drained-shrinks c.args.place s t did);
       knows = λ b at. omega (
         arith,

@@ -1,7 +1,8 @@
 use Rattle.std.proofs.Common.{◌≡◌, ◌<◌, ◌∙◌, Some, length, slice_get, sym, ap, arith}
 use Rattle.std.proofs.lemmas.Option.{slice_get-get_or, slice_get_within}
-use Rattle.desk_side.specs.desk_ends.Rings.{Done}
-use Rattle.desk_steps.proofs.Draining.{goes-further, goes-nowhere, one-drained, shrinks-more, shrinks-none, told-inside}
+use Rattle.desk_side.specs.desk_rings.Rings.{Done}
+use Rattle.desk_steps.proofs.Draining.{goes-further, goes-nowhere, one-drained, shrinks-more, shrinks-none}
+use Rattle.desk_steps.proofs.Draining.{borne-out-inside}
 use Rattle.desk_steps.proofs.Holding.{holds-none, holds-twice}
 use Rattle.desk_steps.proofs.closing.drain_all.Goals as goal
 
@@ -9,8 +10,8 @@ pub loop-i-init : goal.loop-i-init
 loop-i-init g c = record {
   agrees = λ inlets outlets h. h;
   goes_on = goes-nowhere c.args.recorded.now;
-  holds = holds-none c.args.side.now.ways;
-  shrinks = shrinks-none c.args.side.now.seats;
+  holds = holds-none c.args.side.now.producers;
+  shrinks = shrinks-none c.args.side.now.consumers;
   none = λ i f k lt at is. absurd (omega arith);
 }
 
@@ -23,8 +24,8 @@ drain_end-requires g c =
     record {
       inside = λ k is. omega (
         arith,
-        told-inside one c.args.side.now.seats c.args.side.now.ways k
-            (c.requires.told c.loop-i.i one here) is,
+        borne-out-inside one c.args.side.now.consumers c.args.side.now.producers k
+            (c.requires.borne_out c.loop-i.i one here) is,
         c.loop-i.invariant.shrinks.count,
       );
     }
@@ -40,11 +41,13 @@ loop-i-preserved g c =
           (c.loop-i.invariant.agrees inlets outlets h);
       goes_on = goes-further c.args.recorded.now c.loop-i.recorded c.drain_end.new.recorded c.loop-i.invariant.goes_on
           c.drain_end.ensures.goes_on;
-      holds = holds-twice c.args.side.now.ways c.loop-i.side.ways c.drain_end.new.side.ways c.loop-i.invariant.holds
+      holds = holds-twice c.args.side.now.producers c.loop-i.side.producers c.drain_end.new.side.producers
+          c.loop-i.invariant.holds
           c.drain_end.ensures.holds;
-      shrinks = shrinks-more c.args.side.now.seats c.loop-i.side.seats c.drain_end.new.side.seats
+      shrinks = shrinks-more c.args.side.now.consumers c.loop-i.side.consumers c.drain_end.new.side.consumers
           c.loop-i.invariant.shrinks c.drain_end.ensures.shrinks;
-      none = one-drained c.loop-i.i c.args.finished.now.items one c.loop-i.side.seats c.drain_end.new.side.seats here
+      none = one-drained c.loop-i.i c.args.finished.now.items one c.loop-i.side.consumers c.drain_end.new.side.consumers
+          here
           c.drain_end.ensures.shrinks c.in_ok-drain_end.ensures.none c.loop-i.invariant.none;
     }
 
@@ -63,5 +66,6 @@ returns-in_err-drain_end-clause-goes_on g c =
 
 pub returns-in_err-drain_end-clause-holds : goal.returns-in_err-drain_end-clause-holds
 returns-in_err-drain_end-clause-holds g c =
-    holds-twice c.args.side.now.ways c.loop-i.side.ways c.drain_end.new.side.ways c.loop-i.invariant.holds
+    holds-twice c.args.side.now.producers c.loop-i.side.producers c.drain_end.new.side.producers
+    c.loop-i.invariant.holds
     c.drain_end.ensures.holds

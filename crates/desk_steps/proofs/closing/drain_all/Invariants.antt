@@ -1,8 +1,8 @@
 use Rattle.std.proofs.Common.{◌≡◌, ◌<◌, ℕ, List, Some, slice_get}
-use Rattle.desk_side.specs.desk_ends.Rings.{Done, NamedInlet, NamedOutlet}
-use Rattle.desk_side.specs.desk_ends.Ends.{inlet_of}
+use Rattle.desk_side.specs.desk_rings.Rings.{Done, NamedInlet, NamedOutlet}
+use Rattle.desk_side.specs.desk_rings.Ends.{inlet_of}
 use Rattle.desk_steps.specs.Agreeing.{Agrees}
-use Rattle.desk_steps.specs.Settling.{HistoryGoesOn, KnowsNone, Shrinks, WaysHold}
+use Rattle.desk_steps.specs.Settling.{HistoryGoesOn, KnowsNone, Shrinks, ProducersHold}
 use Rattle.desk_steps.proofs.closing.drain_all.Given as goal
 
 -- the rings of the inlets so far are empty
@@ -12,8 +12,8 @@ invariant-loop-i g l = record {
       → Agrees inlets outlets (record { recorded = l.initial.recorded; side = l.initial.side })
       → Agrees inlets outlets (record { recorded = l.recorded; side = l.side });
   goes_on : HistoryGoesOn l.initial.recorded l.recorded;
-  holds : WaysHold l.initial.side.ways l.side.ways;
-  shrinks : Shrinks l.initial.side.seats l.side.seats;
+  holds : ProducersHold l.initial.side.producers l.side.producers;
+  shrinks : Shrinks l.initial.side.consumers l.side.consumers;
   none : (i : ℕ) (f : Done) (k : ℕ) → i < l.i → slice_get l.finished.items i ≡ Some f → inlet_of f ≡ Some k
-      → KnowsNone k l.side.seats;
+      → KnowsNone k l.side.consumers;
 }

@@ -10,4 +10,5 @@ pub returns-then-not-is_from-clause-ok : goal.returns-then-not-is_from-clause-ok
 returns-then-not-is_from-clause-ok g c =
     inr (dropped c.args.place c.args.recorded.now c.args.side.now c.pop.new.self c.front-event.result.now c.pop.result
     c.source.result c.requires.inside c.front-event.ensures c.source.ensures
-    (sym c.is_from.ensures ∙ c.if-not-is_from.true) c.pop.ensures.seats c.pop.ensures.ways c.pop.ensures.counts)
+    (sym c.is_from.ensures ∙ c.if-not-is_from.true) c.pop.ensures.consumers c.pop.ensures.producers
+    c.pop.ensures.counts)

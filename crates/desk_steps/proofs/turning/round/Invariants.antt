@@ -9,7 +9,7 @@ invariant-loop-place g l = record {
   went : (dids : List Did) × Went (record { recorded = l.initial.recorded; side = l.initial.side }) dids
       (record { recorded = l.recorded; side = l.side })
       × (length dids ≡ l.place) × (counted dids ≡ l.turned);
-  size : length l.side.seats ≡ l.place-end;
-  end : l.place-end ≡ length l.initial.side.seats;
+  size : length l.side.consumers ≡ l.place-end;
+  end : l.place-end ≡ length l.initial.side.consumers;
   few : l.turned.steps + l.turned.held + l.turned.refused ≤ l.place;
 }

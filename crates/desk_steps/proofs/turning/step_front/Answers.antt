@@ -15,8 +15,9 @@ pop-requires g c = record {
 
 pub returns-clause-ok : goal.returns-clause-ok
 returns-clause-ok g c =
-    stepped c.args.place c.args.recorded.now c.step.new.self c.args.side.now c.pop.new.self c.tell.new.self
-    c.front.result.now c.pop.result c.in_ok-said.said c.requires.inside c.requires.own c.front.ensures
-    c.in_ok-said.ensures.ok
-    c.pop.ensures.seats c.pop.ensures.ways c.pop.ensures.counts c.tell.ensures.seats c.tell.ensures.ways
-    c.tell.ensures.counts
+    stepped c.args.place c.args.recorded.now c.step.new.self c.args.side.now c.pop.new.self c.send.new.self
+    c.front.result.now c.pop.result c.in_ok-output.output c.requires.inside c.requires.own c.front.ensures
+    c.in_ok-output.ensures.ok
+    c.pop.ensures.consumers c.pop.ensures.producers c.pop.ensures.counts c.send.ensures.consumers
+    c.send.ensures.producers
+    c.send.ensures.counts

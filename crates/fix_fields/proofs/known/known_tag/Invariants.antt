@@ -1,5 +1,5 @@
 use Rattle.std.proofs.Common.{◌≡◌, ◌≤◌, ◌<◌, ◌+◌, ◌-◌, length, drop, take}
-use Rattle.decimal_digits.specs.Digits.{number_of}
+use Rattle.wire_bytes.specs.Digits.{number_of}
 use Rattle.fix_fields.specs.Front.{digits_from}
 use Rattle.fix_fields.proofs.known.known_tag.Given as goal
 

@@ -1,5 +1,5 @@
 use Rattle.std.proofs.Common.{sym, arith}
-use Rattle.decimal_digits.proofs.Numbers.{all_digits_more}
+use Rattle.wire_bytes.proofs.Numbers.{all_digits_more}
 use Rattle.fixed_point.proofs.Numbers.{read_on_step, read_on_whole, read_on_none}
 use Rattle.fixed_point.proofs.digits.read_on.Goals as goal
 

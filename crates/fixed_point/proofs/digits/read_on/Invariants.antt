@@ -1,7 +1,7 @@
 use Rattle.std.proofs.Common.{◌≡◌, ◌+◌, ◌*◌, ◌^◌, true, take}
 use Rattle.std.specs.List.{list_all}
 use Rattle.std.specs.Char.{is_ascii_digit}
-use Rattle.decimal_digits.specs.Digits.{number_of}
+use Rattle.wire_bytes.specs.Digits.{number_of}
 use Rattle.fixed_point.specs.Steps.{capped}
 use Rattle.fixed_point.proofs.digits.read_on.Given as goal
 

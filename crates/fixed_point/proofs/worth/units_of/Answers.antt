@@ -1,7 +1,7 @@
 use Rattle.std.proofs.Common.{◌≡◌, ◌+◌, ◌*◌, ◌^◌, ◌-◌, length, arith}
-use Rattle.decimal_digits.specs.Digits.{number_of}
+use Rattle.wire_bytes.specs.Digits.{number_of}
 use Rattle.fixed_point.proofs.Exact.{front-le, zeros-le}
-use Rattle.decimal_digits.proofs.Numbers.{power_of_ten-pos}
+use Rattle.wire_bytes.proofs.Numbers.{power_of_ten-pos}
 use Rattle.fixed_point.proofs.worth.units_of.Goals as goal
 
 pub returns-in_err-exact_on : goal.returns-in_err-exact_on

@@ -1,6 +1,6 @@
 use Rattle.std.proofs.Common.{◌≡◌, ◌∙◌, ◌<◌, ℕ, List, ap, get_or, length, take, arith}
 use Rattle.std.proofs.Math.Seq.{map-set_same}
-use Rattle.order_shelves.proofs.Shelving.{below-at}
+use Rattle.order_accounts.proofs.Shelving.{below-at}
 use Rattle.gate_audit.specs.Read.{ReadOrder}
 use Rattle.gate_audit.specs.Passes.{HasHeld, hears, order_id}
 use Rattle.gate_audit.proofs.Rereading.{changed-more, each-at, each-set, length-changed-at}

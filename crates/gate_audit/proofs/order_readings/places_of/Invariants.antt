@@ -1,6 +1,6 @@
 -- The places of the orders so far.
 use Rattle.std.proofs.Common.{map, take}
-use Rattle.order_shelves.specs.Shelved.{HasOrders}
+use Rattle.order_accounts.specs.Shelved.{HasOrders}
 use Rattle.gate_audit.specs.Passes.{order_id}
 use Rattle.gate_audit.proofs.order_readings.places_of.Given as goal
 

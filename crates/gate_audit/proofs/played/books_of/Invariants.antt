@@ -1,6 +1,6 @@
 -- The rows of the clients so far.
 use Rattle.std.proofs.Common.{◌≡◌}
-use Rattle.world_links.specs.World.{World}
+use Rattle.world_law.specs.World.{World}
 use Rattle.closed_world.specs.Worlds.{IsAsWorld}
 use Rattle.gate_audit.specs.Read.{for_clients}
 use Rattle.gate_audit.specs.Played as played

@@ -1,7 +1,7 @@
 -- The rows of the orders so far.
 use Rattle.std.proofs.Common.{◌≡◌, ◌++◌, true, map, take}
 use Rattle.gate_law.specs.Settings.{Settings, has_port}
-use Rattle.world_links.specs.World.{World}
+use Rattle.world_law.specs.World.{World}
 use Rattle.closed_world.specs.Worlds.{IsAsWorld}
 use Rattle.gate_audit.specs.Pairs as read
 use Rattle.gate_audit.specs.Played as played

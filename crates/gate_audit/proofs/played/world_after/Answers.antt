@@ -1,5 +1,5 @@
 use Rattle.std.proofs.Common.{List, sym, subst}
-use Rattle.world_links.specs.World.{WorldStep}
+use Rattle.world_law.specs.World.{WorldStep}
 use Rattle.closed_world.specs.Worlds.{IsWorld}
 use Rattle.gate_audit.proofs.Playing.{steps-more}
 use Rattle.gate_audit.proofs.played.world_after.Goals as goal

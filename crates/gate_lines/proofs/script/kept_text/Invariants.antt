@@ -2,7 +2,7 @@
 use Rattle.std.proofs.Common.{◌≡◌, take}
 use Rattle.std.specs.Prelude.{map}
 use Rattle.std.specs.List.{flat_map}
-use Rattle.batch_lines.specs.Lines.{shown_batch}
+use Rattle.gate_lines.specs.BatchLines.{shown_batch}
 use Rattle.gate_events.specs.Seen.{batch_seen}
 use Rattle.gate_lines.proofs.script.kept_text.Given as goal
 

@@ -1,5 +1,5 @@
 use Rattle.std.proofs.Common.{ℕ, List, [], ◌∷◌, ◌++◌, subst, arith, length-append}
-use Rattle.audit_lines.proofs.text_lines.Given.{none-given, one-given}
+use Rattle.wire_streams.proofs.Given.{none-given, one-given}
 use Rattle.gate_lines.specs.Scripts.{PrintsLine, WritesNothing}
 use Rattle.gate_lines.specs.Status.{stop_of_stream}
 use Rattle.gate_lines.proofs.Printing.{none-printed, one-printed, all-printed, line-stopped, stream-stopped, passed-on}

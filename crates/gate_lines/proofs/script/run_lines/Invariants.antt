@@ -1,7 +1,7 @@
 -- The lines that were given stepped the runner, and what each came to is written.
 use Rattle.std.proofs.Common.{◌≡◌, ℕ, ◌+◌, List, length}
-use Rattle.audit_lines.specs.text_lines.Unread.{lines_left}
-use Rattle.audit_lines.proofs.text_lines.Given.{Leaves}
+use Rattle.wire_streams.specs.Unread.{lines_left}
+use Rattle.wire_streams.proofs.Given.{Leaves}
 use Rattle.gate_lines.specs.Scripts.{Prints}
 use Rattle.gate_lines.proofs.script.run_lines.Given as goal
 

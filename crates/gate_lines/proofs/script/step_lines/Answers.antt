@@ -1,6 +1,6 @@
 use Rattle.std.proofs.Common.{ℕ, List, [], ◌∷◌, ◌++◌, refl, subst}
 use Rattle.std.proofs.lemmas.Fn.{FoldsTo-push}
-use Rattle.audit_lines.proofs.text_lines.Given.{none-given, one-given}
+use Rattle.wire_streams.proofs.Given.{none-given, one-given}
 use Rattle.script_steps.specs.Standing.{IsTextStep, StepsText}
 use Rattle.script_steps.proofs.Going.{same-on, both-on}
 use Rattle.gate_lines.proofs.Stepping.{all-stepped}

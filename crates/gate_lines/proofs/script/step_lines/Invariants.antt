@@ -1,8 +1,8 @@
 -- The core went on by the lines that were given, and they stepped the runner.
 use Rattle.std.proofs.Common.{ℕ, List}
 use Rattle.std.specs.List.{FoldsTo}
-use Rattle.audit_lines.specs.text_lines.Unread.{lines_left}
-use Rattle.audit_lines.proofs.text_lines.Given.{Leaves}
+use Rattle.wire_streams.specs.Unread.{lines_left}
+use Rattle.wire_streams.proofs.Given.{Leaves}
 use Rattle.script_steps.specs.Standing.{IsTextStep}
 use Rattle.script_steps.specs.Steps.{ScriptGoesOn}
 use Rattle.gate_lines.proofs.script.step_lines.Given as goal

@@ -8,6 +8,6 @@ invariant-loop g l = record {
   is_finite : (goal.iterator-loop g).is_finite l.iterator';
   waiting : event_seen l.waiting ≡ event_seen l.fn.event;
   put : g.G.Gate.was_put l.gate ≡ g.G.Gate.was_put l.fn.gate;
-  silent : g.C.Clock.told l.clock ≡ g.C.Clock.told l.fn.clock;
+  silent : g.C.Clock.reported l.clock ≡ g.C.Clock.reported l.fn.clock;
   none_taken : g.G.Gate.was_taken l.gate ≡ g.G.Gate.was_taken l.fn.gate;
 }

@@ -14,7 +14,7 @@ loop-init g c = record {
   is_finite = tt;
   reads = read_awaited g.D.Decoder.made g.D.Decoder.are_all _ _ _ _ _ _ _ _ _
       (read_none g.D.Decoder.made g.D.Decoder.are_all c.args.reader.now (g.G.Gate.was_put c.args.gate.now)
-      (g.C.Clock.told c.args.clock.now) (g.S.Read.remaining c.args.stream.now)) c.await_bytes.ensures.same;
+      (g.C.Clock.reported c.args.clock.now) (g.S.Read.remaining c.args.stream.now)) c.await_bytes.ensures.same;
   goes_on = c.requires.goes_on;
   source = refl;
   none_taken = refl;
@@ -61,7 +61,7 @@ returns-then-gives_up-clause-reads g c =
     (λ f q. (c.in-Ok.ensures.refused f q).0) in
     subst (λ (v : List law.Event). HasReadAll g.D.Decoder.made g.D.Decoder.are_all
     (λ d. g.D.Decoder.source d ≡ g.D.Decoder.source c.args.reader.now.decoder) (Err StepLimit) c.args.reader.now
-    (g.G.Gate.was_put c.args.gate.now) v (g.C.Clock.told c.args.clock.now) (g.C.Clock.told c.now_ms-at.new.self)
+    (g.G.Gate.was_put c.args.gate.now) v (g.C.Clock.reported c.args.clock.now) (g.C.Clock.reported c.now_ms-at.new.self)
     (g.S.Read.remaining c.args.stream.now) (g.S.Read.remaining c.step-done.new.stream))
     (sym c.turn.ensures.none_put)
     (read_over g.D.Decoder.made g.D.Decoder.are_all
@@ -76,7 +76,7 @@ returns-in-Ended-clause-reads g c =
     (λ f q. (c.in-Ok.ensures.refused f q).0) in
     subst (λ (v : List law.Event). HasReadAll g.D.Decoder.made g.D.Decoder.are_all
     (λ d. g.D.Decoder.source d ≡ g.D.Decoder.source c.args.reader.now.decoder) (Ok tt) c.args.reader.now
-    (g.G.Gate.was_put c.args.gate.now) v (g.C.Clock.told c.args.clock.now) (g.C.Clock.told c.now_ms-at.new.self)
+    (g.G.Gate.was_put c.args.gate.now) v (g.C.Clock.reported c.args.clock.now) (g.C.Clock.reported c.now_ms-at.new.self)
     (g.S.Read.remaining c.args.stream.now)
     (g.S.Read.remaining c.step-done.new.stream))
     (sym c.turn.ensures.none_put)
@@ -92,7 +92,7 @@ returns-then-ends_link-clause-reads g c =
     subst (λ (v : List law.Event). HasReadAll g.D.Decoder.made g.D.Decoder.are_all
     (λ d. g.D.Decoder.source d ≡ g.D.Decoder.source c.args.reader.now.decoder)
     (Err c.in-Err.fault) c.args.reader.now (g.G.Gate.was_put c.args.gate.now) v
-    (g.C.Clock.told c.args.clock.now) (g.C.Clock.told c.now_ms-at.new.self)
+    (g.C.Clock.reported c.args.clock.now) (g.C.Clock.reported c.now_ms-at.new.self)
     (g.S.Read.remaining c.args.stream.now) (g.S.Read.remaining c.step-done.new.stream))
     (sym c.turn.ensures.none_put)
     (read_fault g.D.Decoder.made g.D.Decoder.are_all

@@ -6,7 +6,7 @@ pub loop-init : goal.loop-init
 loop-init g c = record {
   can_next = tt;
   is_finite = tt;
-  puts = ticks_none g.G.Gate.gave_back c.args.clients c.args.ports (g.C.Clock.told c.args.clock.now)
+  puts = ticks_none g.G.Gate.gave_back c.args.clients c.args.ports (g.C.Clock.reported c.args.clock.now)
       (g.G.Gate.was_put c.args.gate.now);
   none_taken = refl;
 }

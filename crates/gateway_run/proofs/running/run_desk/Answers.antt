@@ -9,10 +9,10 @@ use Rattle.std.specs.declared.hash.BuildHasher as BuildHasher
 use Rattle.std.specs.declared.hash.Hasher as Hasher
 use Rattle.desk_gates.proofs.Sent.{outlet_gate_send}
 use Rattle.desk_gates.specs.desk.declared.DeskName as DeskName
-use Rattle.desk_gates.specs.desk.desk_ends.Rings.{NamedInlet}
+use Rattle.desk_gates.specs.desk.desk_rings.Rings.{NamedInlet}
 use Rattle.desk_gates.specs.contracts.outlet.OutletGate as OutletGate
-use Rattle.gateway_run.specs.contracts.telling_gate.TellingGate as TellingGate
-use Rattle.gateway_run.proofs.Sent.{telling_send}
+use Rattle.gateway_run.specs.contracts.logged_gate.LoggedGate as LoggedGate
+use Rattle.gateway_run.proofs.Sent.{logged_gate_send}
 use Rattle.gateway_run.proofs.running.run_desk.Goals as goal
 
 pub serve_desk-requires-send-G : goal.serve_desk-requires-send-G
@@ -22,8 +22,8 @@ serve_desk-requires-send-G g c κs l =
     → IsSend (OutletGate.the_row a K S T k b h)
     = λ a K S T k b h s. outlet_gate_send K S T k b h s a in
     let R = param 1 g.row.R in
-    let told : (a : NamedLft) (X : RattleType) → IsSend X → IsSend (TellingGate.the_row a X R)
-    = λ a X x. telling_send a R c.type_bounds.sync-R X x in
+    let told : (a : NamedLft) (X : RattleType) → IsSend X → IsSend (LoggedGate.the_row a X R)
+    = λ a X x. logged_gate_send a R c.type_bounds.sync-R X x in
     search (told, gates, sendable, crosses) depth 100 fits 500000
 
 pub serve_desk-requires-clause-clock : goal.serve_desk-requires-clause-clock

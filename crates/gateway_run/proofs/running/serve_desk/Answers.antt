@@ -9,7 +9,7 @@ use Rattle.std.specs.declared.hash.Hasher as Hasher
 use Rattle.std.specs.declared.io.Write as Write
 use Rattle.desk_gates.proofs.Sent.{inlet_gate_send}
 use Rattle.desk_gates.specs.desk.declared.DeskName as DeskName
-use Rattle.desk_gates.specs.declared.outlet_pen.OutletEnd as OutletEnd
+use Rattle.desk_gates.specs.declared.outlet_writer.OutletEnd as OutletEnd
 use Rattle.desk_gates.specs.contracts.inlet.InletGate as InletGate
 use Rattle.link_io.specs.declared.gate.Gate as Gate
 use Rattle.link_io.specs.declared.streams.Prompt as Prompt
@@ -17,7 +17,7 @@ use Rattle.gateway_run.specs.contracts.counted.CountedLinks as CountedLinks
 use Rattle.gateway_run.specs.contracts.run_opener.RunOpener as RunOpener
 use Rattle.gateway_run.specs.contracts.port_faults.PortLinks as PortLinks
 use Rattle.gateway_run.specs.contracts.run_gate.RunGate as RunGate
-use Rattle.gateway_run.proofs.Sent.{bell_send, opener_send, run_clock_send, run_gate_send}
+use Rattle.gateway_run.proofs.Sent.{waker_clock_send, opener_send, run_clock_send, run_gate_send}
 use Rattle.gateway_run.proofs.running.serve_desk.Goals as goal
 
 pub serve-requires-send-O : goal.serve-requires-send-O
@@ -47,4 +47,4 @@ pub serve-requires-send-C : goal.serve-requires-send-C
 serve-requires-send-C g c κs l = search (run_clock_send, c.type_bounds.sync-R, sendable) depth 40
 
 pub serve-requires-send-D : goal.serve-requires-send-D
-serve-requires-send-D g c κs l = search (bell_send, c.type_bounds.sync-R, sendable) depth 40
+serve-requires-send-D g c κs l = search (waker_clock_send, c.type_bounds.sync-R, sendable) depth 40

@@ -5,7 +5,7 @@ use Rattle.order_machine.specs.Runs.{NumbersLeft}
 use Rattle.order_machine.proofs.Running.{headline-of}
 use Rattle.order_core.specs.State.{OrderCoreState, IsAfterTurns, core_clients, core_numbers}
 use Rattle.order_core.specs.Runs.{IsFor, run_history, is_known_client}
-use Rattle.order_ledger.specs.to_market.TermsSeen.{terms_seen}
+use Rattle.to_market.specs.TermsSeen.{terms_seen}
 use Rattle.order_core.proofs.Histories.{each-more, history-more, length-onto, passes-at}
 use Rattle.order_core.proofs.Standing.{after-by_parts}
 use Rattle.order_core.proofs.Turns.{parts-of}

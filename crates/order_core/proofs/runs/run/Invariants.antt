@@ -1,7 +1,7 @@
 use Rattle.std.proofs.Common.{◌≡◌, ◌≤◌, ◌*◌, take, length, map}
 use Rattle.outstanding.specs.order_law.Headline.{EachWith}
 use Rattle.order_core.specs.Runs.{IsFor, run_history}
-use Rattle.order_ledger.specs.to_market.TermsSeen.{terms_seen}
+use Rattle.to_market.specs.TermsSeen.{terms_seen}
 use Rattle.order_core.specs.State.{IsAfterTurns, core_clients, core_numbers}
 use Rattle.order_core.proofs.runs.run.Given as goal
 

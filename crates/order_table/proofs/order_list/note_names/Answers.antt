@@ -1,6 +1,6 @@
 use Rattle.std.proofs.Common.{◌≡◌, List, [], map, true, true≢false, sym, ap, ◌∙◌, subst}
 use Rattle.std.specs.Prelude.{option_map}
-use Rattle.hint_index.specs.Hints.{LeadsTo, hint_of}
+use Rattle.undo_index.specs.Hints.{LeadsTo, hint_of}
 use Rattle.order_machine.specs.OrderRecord.{OrderRecord}
 use Rattle.undo_orders.specs.Seen.{cancel_seen, replace_seen}
 use Rattle.order_table.specs.declared.keys.NameKey.{NameKey}

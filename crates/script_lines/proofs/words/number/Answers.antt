@@ -2,7 +2,7 @@
 use Rattle.std.proofs.Common.{rules, ◌≡◌, ◌↔◌, ℕ, ◌<◌, ◌^◌, List, length, sym, true, false, refl, arith}
 use Rattle.std.specs.Prelude.{Option, Some, None, IsSome, SomeIff, is_some}
 use Rattle.std.proofs.lemmas.Bool.Decides.{nat_tests}
-use Rattle.decimal_digits.specs.Digits.{number_of, AreDigitsBelow}
+use Rattle.wire_bytes.specs.Digits.{number_of, AreDigitsBelow}
 use Rattle.script_lines.specs.Words.{IsNumberBelow}
 use Rattle.script_lines.specs.Forms.{is_number64}
 use Rattle.script_lines.proofs.Tests.{any_number_form}

@@ -1,7 +1,7 @@
 use Rattle.std.proofs.Common.{◌≡◌, arith}
 use Rattle.std.proofs.lemmas.Bool.Decides.{nat_tests}
 use Rattle.std.specs.Prelude.{length, true, nat_le}
-use Rattle.decimal_digits.proofs.Numbers.{number_of_few, number_of_small}
+use Rattle.wire_bytes.proofs.Numbers.{number_of_few, number_of_small}
 use Rattle.session_reading.proofs.words.number_in.Goals as goal
 
 pub returns-clause-value : goal.returns-clause-value

@@ -1,6 +1,6 @@
 use Rattle.std.proofs.Common.{rules, ◌∙◌}
 use Rattle.to_market.proofs.Rows.{price-limit, price-refused, price-taken}
-use Rattle.to_market.proofs.Verdict.{PassesTerms, by_quantity, by_minimum, by_price, AsksAs-fields}
+use Rattle.to_market.proofs.AskVerdict.{PassesTerms, by_quantity, by_minimum, by_price, AsksAs-fields}
 use Rattle.to_market.proofs.asking.ask_of.Goals as goal
 
 pub returns-in_err-shares-clause-verdict : goal.returns-in_err-shares-clause-verdict

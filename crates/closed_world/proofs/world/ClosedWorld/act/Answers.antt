@@ -2,8 +2,8 @@ use Rattle.std.proofs.Common.{◌≡◌, ◌+◌, ◌<◌, ◌∙◌, length, re
 use Rattle.std.proofs.lemmas.Result.{IfOk-weaker}
 use Rattle.market_sim.specs.Sim.{sim_step}
 use Rattle.market_sim.specs.declared.event.SimEvent.TheVariants as sims
-use Rattle.world_links.specs.World.{market_steps}
-use Rattle.world_ports.specs.Lines.{Line, market_line}
+use Rattle.world_law.specs.World.{market_steps}
+use Rattle.closed_world.specs.Lines.{Line, market_line}
 use Rattle.closed_world.specs.Worlds.{line_at}
 use Rattle.closed_world.proofs.Changes.{market-changes}
 use Rattle.closed_world.proofs.Going.{act-on, is-port, port-changed}

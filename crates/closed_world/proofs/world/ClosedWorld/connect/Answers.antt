@@ -1,8 +1,8 @@
 use Rattle.std.proofs.Common.{◌≡◌, ℕ, ◌+◌, ◌<◌, ◌∙◌, length, refl, sym, ap, subst, arith, Option, Some}
 use Rattle.std.proofs.lemmas.Result.{IfOk-weaker}
 use Rattle.gate_law.specs.Events.{PortUp}
-use Rattle.world_links.specs.World.{connected}
-use Rattle.world_ports.specs.Lines.{Line, OpensTo, line_seen, opened_line}
+use Rattle.world_law.specs.World.{connected}
+use Rattle.closed_world.specs.Lines.{Line, OpensTo, line_seen, opened_line}
 use Rattle.closed_world.specs.Worlds.{line_at}
 use Rattle.closed_world.proofs.Changes.{connected-changes}
 use Rattle.closed_world.proofs.Going.{connect-opens, gets-same, is-port, line-there, port-changed}

@@ -1,8 +1,8 @@
 use Rattle.std.proofs.Common.{◌≡◌, ℕ, ◌+◌, ◌<◌, ◌∙◌, length, refl, sym, ap, subst, arith, Option, Some}
 use Rattle.std.proofs.lemmas.Result.{IfOk-weaker}
 use Rattle.gate_law.specs.Events.{PortGone}
-use Rattle.world_links.specs.World.{ended}
-use Rattle.world_ports.specs.Lines.{Line, LosesTo, ended_line, line_seen}
+use Rattle.world_law.specs.World.{ended}
+use Rattle.closed_world.specs.Lines.{Line, LosesTo, ended_line, line_seen}
 use Rattle.closed_world.specs.Worlds.{line_at}
 use Rattle.closed_world.proofs.Changes.{ended-changes}
 use Rattle.closed_world.proofs.Going.{gets-same, is-port, line-there, lose-some, port-changed}

@@ -1,6 +1,6 @@
 use Rattle.std.proofs.Common.{length, refl, ap, ◌∙◌}
 use Rattle.gate_journal.specs.Kept.{turns}
-use Rattle.world_links.specs.World.{opening_world}
+use Rattle.world_law.specs.World.{opening_world}
 use Rattle.closed_world.proofs.world.ClosedWorld.new.Goals as goal
 
 pub returns : goal.returns

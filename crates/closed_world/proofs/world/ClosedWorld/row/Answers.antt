@@ -1,6 +1,6 @@
 use Rattle.std.proofs.Common.{◌≡◌, ◌+◌, ◌<◌, ◌∙◌, true, false, length, ap, sym, arith}
 use Rattle.market_law.specs.Rows.{row}
-use Rattle.world_ports.specs.Lines.{Line}
+use Rattle.closed_world.specs.Lines.{Line}
 use Rattle.closed_world.proofs.Going.{is-port, line-there}
 use Rattle.closed_world.proofs.world.ClosedWorld.row.Goals as goal
 

@@ -2,7 +2,7 @@ use Rattle.std.proofs.Common.{◌≡◌, map, ap, Some}
 use Rattle.std.proofs.lemmas.Result.{IfOk-weaker}
 use Rattle.gate_law.specs.After.{lists}
 use Rattle.gate_events.specs.Seen.{batch_seen, link_out_seen}
-use Rattle.world_links.specs.World.{asked_by_event}
+use Rattle.world_law.specs.World.{asked_by_event}
 use Rattle.closed_world.specs.Worlds.{after_turn}
 use Rattle.closed_world.proofs.Going.{tell-some, told-packets-of}
 use Rattle.closed_world.proofs.world.ClosedWorld.tell.Goals as goal

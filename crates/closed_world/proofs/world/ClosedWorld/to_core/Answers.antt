@@ -2,8 +2,8 @@ use Rattle.std.proofs.Common.{◌≡◌, ℕ, ◌+◌, ◌<◌, ◌∙◌, lengt
 use Rattle.std.proofs.lemmas.Result.{IfOk-weaker}
 use Rattle.soup_packets.specs.declared.packet.Packet.{Packet}
 use Rattle.gate_law.specs.Events.{PortPacket}
-use Rattle.world_links.specs.World.{with_connection}
-use Rattle.world_ports.specs.Lines.{Line, NothingToCore, TakesToCore, line_seen, with_way}
+use Rattle.world_law.specs.World.{with_connection}
+use Rattle.closed_world.specs.Lines.{Line, NothingToCore, TakesToCore, line_seen, with_way}
 use Rattle.closed_world.specs.Worlds.{line_at}
 use Rattle.closed_world.proofs.Going.{LeftToCore, core-none, core-some, gets-same, is-port, left-to-core, line-there}
 use Rattle.closed_world.proofs.Going.{none-taken, port-changed, port-same}

@@ -1,6 +1,6 @@
 use Rattle.std.proofs.Common.{◌≡◌, ◌+◌, ◌<◌, ◌∙◌, length, refl, subst, arith}
 use Rattle.std.proofs.lemmas.Result.{IfOk-weaker}
-use Rattle.world_ports.specs.Lines.{Delivers, Line, line_seen}
+use Rattle.closed_world.specs.Lines.{Delivers, Line, line_seen}
 use Rattle.closed_world.specs.Worlds.{line_at}
 use Rattle.closed_world.proofs.Going.{Delivered, delivered, is-port, line-there, market-goes, port-changed}
 use Rattle.closed_world.proofs.world.ClosedWorld.to_market.Goals as goal

@@ -7,5 +7,5 @@ pub returns-in-Ok-close-clause-settled : goal.returns-in-Ok-close-clause-settled
 returns-in-Ok-close-clause-settled g c =
     subst (λ (z : Kept). AreSettled c.args.finished.items z) (sym c.in-Ok-close.ensures.history) c.in-Ok.ensures.settled
 
-pub returns-in-Ok-close-clause-told : goal.returns-in-Ok-close-clause-told
-returns-in-Ok-close-clause-told g c = c.in-Ok-close.ensures.told c.args.finished.items c.settle.ensures.released
+pub returns-in-Ok-close-clause-output : goal.returns-in-Ok-close-clause-output
+returns-in-Ok-close-clause-output g c = c.in-Ok-close.ensures.output c.args.finished.items c.settle.ensures.released

@@ -18,14 +18,14 @@ invariant_of-self-in-Ok g c =
     c.in-Ok.ensures.turns
     (c.in_ok-batch.ensures.after c.self.inside.settings (turns c.self.inside.history) c.self.invariant)
 
-pub returns-in-Ok-clause-ok : goal.returns-in-Ok-clause-ok
-returns-in-Ok-clause-ok g c =
+pub returns-clause-ok : goal.returns-clause-ok
+returns-clause-ok g c =
     step-is c.args.event.now c.of.result (batch_seen c.in_ok-batch.batch) c.self.inside.settings c.self.inside.history _
     c.args.self.now c.self.view_is c.in-Ok.ensures.events c.in-Ok.ensures.batches c.in-Ok.ensures.pages c.of.ensures
     (c.in_ok-batch.ensures.holds c.self.inside.settings (turns c.self.inside.history) c.self.invariant)
 
-pub invariant_of-self-in-Err-1 : goal.invariant_of-self-in-Err-1
-invariant_of-self-in-Err-1 g c =
+pub invariant_of-self-in-Err : goal.invariant_of-self-in-Err
+invariant_of-self-in-Err g c =
     after-turns c.self.inside.settings (turns c.self.inside.history) _ _ (ap turns c.in-Err.ensures.err)
     (after-same c.self.inside.settings (turns c.self.inside.history) c.self.inside.core _
     (c.undo.ensures.now ∙ c.step.ensures.settled) c.self.invariant)

@@ -1,5 +1,5 @@
 use Rattle.std.proofs.Common.{ap, refl}
-use Rattle.stream_buffer.specs.Buffer.{Buffer}
+use Rattle.wire_streams.specs.Buffer.{Buffer}
 use Rattle.fix_framing.specs.Stream.{Rest}
 use Rattle.fix_framing.proofs.Passing.{nothing_passed}
 use Rattle.fix_framing.proofs.framer.Framer.new.Goals as goal

@@ -1,6 +1,6 @@
 use Rattle.std.proofs.Common.{ap, subst}
 use Rattle.std.specs.Prelude.{Option}
-use Rattle.stream_buffer.specs.Buffer.{BytesHeld, LetsGo}
+use Rattle.wire_streams.specs.Buffer.{BytesHeld, LetsGo}
 use Rattle.fix_framing.specs.declared.place.Framed.{Framed}
 use Rattle.fix_framing.specs.Front.{IsFramed}
 use Rattle.fix_framing.specs.Stream.{ReaderStanding, end_of}

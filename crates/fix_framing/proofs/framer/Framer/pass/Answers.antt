@@ -1,5 +1,5 @@
 use Rattle.std.proofs.Common.{ap, subst}
-use Rattle.stream_buffer.specs.Buffer.{BytesHeld, LetsGo}
+use Rattle.wire_streams.specs.Buffer.{BytesHeld, LetsGo}
 use Rattle.fix_framing.specs.Stream.{ReaderStanding, end_of}
 use Rattle.fix_framing.proofs.Passing.{none_passed, size_there, passes}
 use Rattle.fix_framing.proofs.framer.Framer.pass.Goals as goal

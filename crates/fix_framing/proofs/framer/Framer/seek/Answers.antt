@@ -1,5 +1,5 @@
 use Rattle.std.proofs.Common.{◌≡◌, ◌∙◌, ap, sym, subst, drop, List, ℕ, arith}
-use Rattle.stream_buffer.specs.Buffer.{BytesHeld, LetsGo}
+use Rattle.wire_streams.specs.Buffer.{BytesHeld, LetsGo}
 use Rattle.fix_framing.specs.Stream.{ReaderStanding, Rest, end_of}
 use Rattle.fix_framing.proofs.Passing.{open_end, sought}
 use Rattle.fix_framing.proofs.framer.Framer.seek.Goals as goal

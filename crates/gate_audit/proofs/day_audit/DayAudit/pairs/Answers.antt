@@ -23,7 +23,7 @@ returns-clause-read c = λ h is.
     ap (λ (xs : List ClientSettings). length xs) c.clients-clients.ensures.clients in
     let rows : c.as_slice.result.now ≡ fix_opened s h =
     c.as_slice.ensures.value ∙ fix-are s h c.as_slice-orders.result.now (length c.clients-clients.result.now)
-    c.in_ok-fix.fix.items are_openings is_many (c.in_ok-fix.ensures.read (told_whole h) is.readings) in
+    c.in_ok-fix.fix.items are_openings is_many (c.in_ok-fix.ensures.read (told_whole h) (c.shrink.ensures (told_whole h) is.readings)) in
     let said : c.as_slice-2.result.now ≡ said_opened s h =
     c.as_slice-2.ensures.value ∙ said-are s h c.args.self.openings.orders.items c.in_ok-said.said.items
     is.openings.orders (c.in_ok-said.ensures h is.ports) in
@@ -41,7 +41,7 @@ returns-clause-run c = λ h is holds.
     ap (λ (xs : List ClientSettings). length xs) c.clients-clients.ensures.clients in
     let rows : c.as_slice.result.now ≡ fix_opened s h =
     c.as_slice.ensures.value ∙ fix-are s h c.as_slice-orders.result.now (length c.clients-clients.result.now)
-    c.in_ok-fix.fix.items are_openings is_many (c.in_ok-fix.ensures.read (told_whole h) is.readings) in
+    c.in_ok-fix.fix.items are_openings is_many (c.in_ok-fix.ensures.read (told_whole h) (c.shrink.ensures (told_whole h) is.readings)) in
     let said : c.as_slice-2.result.now ≡ said_opened s h =
     c.as_slice-2.ensures.value ∙ said-are s h c.args.self.openings.orders.items c.in_ok-said.said.items
     is.openings.orders (c.in_ok-said.ensures h is.ports) in
@@ -61,7 +61,7 @@ returns-clause-held c = λ h is.
     let is_many : length c.clients-clients.result.now ≡ length s.clients =
     ap (λ (xs : List ClientSettings). length xs) c.clients-clients.ensures.clients in (
       all-held s h (held-are s h c.as_slice-orders.result.now (length c.clients-clients.result.now) are_openings is_many
-          (c.in_ok-fix.ensures.held (told_whole h) is.readings)),
+          (c.in_ok-fix.ensures.held (told_whole h) (c.shrink.ensures (told_whole h) is.readings))),
       omega (arith, is.openings.few, same-tokens h),
     )
 
@@ -77,7 +77,7 @@ returns-in_err-fix-clause-large c err = λ h is held.
     ap (λ (xs : List ClientSettings). length xs) c.clients-clients.ensures.clients in
     let own_error : IsErrOf {E = ReadingFault} (Err c.in_err-fix.field-0.0) TooLarge =
     search (rules, c.from_residual.ensures, err) in
-    c.in_err-fix.ensures.large own_error (told_whole h) is.readings
+    c.in_err-fix.ensures.large own_error (told_whole h) (c.shrink.ensures (told_whole h) is.readings)
     (are-held s h c.as_slice-orders.result.now (length c.clients-clients.result.now) are_openings is_many (held-all s h held))
 
 pub returns-then-len-ports-clause-ascending : goal.returns-then-len-ports-clause-ascending

@@ -1,6 +1,6 @@
 use Rattle.std.proofs.Common.{◌<◌, ℕ, List, length, map, subst, sym}
-use Rattle.order_shelves.specs.Shelved.{AreBelow, HasOrders, IsNear}
-use Rattle.order_shelves.proofs.Shelving.{below-at}
+use Rattle.order_accounts.specs.Shelved.{AreBelow, HasOrders, IsNear}
+use Rattle.order_accounts.proofs.Shelving.{below-at}
 use Rattle.gate_law.specs.fix_fields.Field.{Message, text}
 use Rattle.gate_audit.specs.Read.{ReadOrder}
 use Rattle.gate_audit.specs.Passes.{AreRead, HasHeld, hears, order_id}

@@ -1,6 +1,6 @@
 use Rattle.std.proofs.Common.{◌≡◌, ◌+◌, ℕ, true, map, refl}
 use Rattle.fix_types.specs.Application.{body_fields}
-use Rattle.order_core.specs.order_ledger.Seen.{client_seen}
+use Rattle.order_core.specs.Seen.{client_seen}
 use Rattle.gate_law.specs.Settings.{terms}
 use Rattle.gate_core.proofs.Judging.{judged}
 use Rattle.gate_law.proofs.Clients.{told-none, told-some}

@@ -22,7 +22,7 @@ loop-preserved g c = elim c.match-tried.branch [
   | in-Ok+in-Some-read w ↦
       let more = rw w.in-Ok.is at c.in-Some.ensures.counts in
       let same = w.read_link-read.ensures.same in
-      let log = log_of g.G.Gate.was_put g.C.Clock.told in
+      let log = log_of g.G.Gate.was_put g.C.Clock.reported in
       let some = subst (λ (p : Recipient). OfAStream (reads_of p (c.loop.link + 1) w.in-Some-read.end.reader
       (log c.loop.self.worker) (log w.read_link-read.new.self.worker)))
       c.loop.invariant.peer w.in-Some-read.ensures.some in

@@ -1,7 +1,7 @@
 use Rattle.std.proofs.Common.{Option, subst, refl, sym, ap, ◌∙◌}
 use Rattle.std.proofs.Math.Logic.{∥∥₁_map}
 use Rattle.gate_workers.specs.declared.link.Link.{Link}
-use Rattle.gate_workers.specs.Pens.{Ends, PenKept}
+use Rattle.gate_workers.specs.SharedWriters.{Ends, WriterKept}
 use Rattle.gate_workers.proofs.SoFar.{none_of, stepped_on, stepped_over}
 use Rattle.gate_workers.proofs.Keeping.{kept_on, kept_over, kept_written, same_link}
 use Rattle.gate_workers.proofs.work.Work.step.Goals as goal
@@ -9,9 +9,10 @@ use Rattle.gate_workers.proofs.work.Work.step.Goals as goal
 pub invariant_of-self-in-Some-ended : goal.invariant_of-self-in-Some-ended
 invariant_of-self-in-Some-ended g c = record {
   kept =
-      subst (λ (o : Option (Link _ _)). ∥ PenKept g.W.Write.contents g.G.Gate.was_taken c.args.self.now.links o
+      subst (λ (o : Option (Link _ _)). ∥ WriterKept g.W.Write.contents g.G.Gate.was_taken c.args.self.now.links o
       c.step-wrote.new.gate ∥₁) (sym c.take.ensures.after)
-      (∥∥₁_map (subst (λ (o : Option (Link _ _)). ∥ PenKept g.W.Write.contents g.G.Gate.was_taken c.args.self.now.links
+      (∥∥₁_map (subst (λ (o : Option (Link _ _)). ∥ WriterKept g.W.Write.contents g.G.Gate.was_taken
+      c.args.self.now.links
       o c.args.self.now.gate ∥₁) (sym c.take.ensures.value ∙ c.in-Some.is) c.args.self.now.kept)
       (kept_over g.W.Write.contents g.G.Gate.was_taken c.args.self.now.links c.in-Some.link c.step-wrote.new.stream
       c.in-Some-ended.end c.args.self.now.gate c.step-wrote.new.gate
@@ -28,7 +29,8 @@ returns-in-Some-ended-clause-steps g c =
     c.in-Some-ended.end c.step-wrote.new.stream o c.take.new.self c.step-wrote.new.gate)
     (sym (sym c.take.ensures.value ∙ c.in-Some.is)) (
       c.take.ensures.after,
-      ∥∥₁_map (subst (λ (o : Option (Link _ _)). ∥ PenKept g.W.Write.contents g.G.Gate.was_taken c.args.self.now.links o
+      ∥∥₁_map (subst (λ (o : Option (Link _ _)). ∥ WriterKept g.W.Write.contents g.G.Gate.was_taken
+          c.args.self.now.links o
           c.args.self.now.gate ∥₁) (sym c.take.ensures.value ∙ c.in-Some.is) c.args.self.now.kept)
           (kept_written g.W.Write.contents g.G.Gate.was_taken c.args.self.now.links c.in-Some.link
           c.step-wrote.new.stream c.in-Some-ended.end c.args.self.now.gate c.step-wrote.new.gate
@@ -42,7 +44,8 @@ returns-in-Some-ended-clause-steps g c =
 pub invariant_of-self-2 : goal.invariant_of-self-2
 invariant_of-self-2 g c = record {
   kept =
-      ∥∥₁_map (subst (λ (o : Option (Link _ _)). ∥ PenKept g.W.Write.contents g.G.Gate.was_taken c.args.self.now.links o
+      ∥∥₁_map (subst (λ (o : Option (Link _ _)). ∥ WriterKept g.W.Write.contents g.G.Gate.was_taken
+      c.args.self.now.links o
       c.args.self.now.gate ∥₁) (sym c.take.ensures.value ∙ c.in-Some.is) c.args.self.now.kept)
       (kept_on g.W.Write.contents g.G.Gate.was_taken c.args.self.now.links c.in-Some.link _ c.args.self.now.gate
       c.step-wrote.new.gate refl refl

@@ -10,4 +10,4 @@ keep-requires-clause-puts_own g c =
 
 pub keep-requires-clause-takes_own : goal.keep-requires-clause-takes_own
 keep-requires-clause-takes_own g c =
-    c.line_of-line.ensures.pen ∙ (c.is_to.ensures c.if-is_to.true ∙ sym c.line_of-line.ensures.peer)
+    c.line_of-line.ensures.shared_writer ∙ (c.is_to.ensures c.if-is_to.true ∙ sym c.line_of-line.ensures.peer)

@@ -21,8 +21,8 @@ pub returns-clause-given : goal.returns-clause-given
 returns-clause-given c =
     let r : Reading = c.args.self.now in
     let is = seen-unseen r _ _ _ _ _ _ c.self.view_is c.requires c.self.invariant in
-    whole-given r.told c.note_pages.new.told.pages c.into_pages-part.result is.none_told
+    whole-given r.yielded c.note_pages.new.noted.pages c.into_pages-part.result is.none_yielded
     (c.pages.ensures.same ∙ ap kept_in c.pages.ensures.pages)
-    (c.note_pages.ensures ∙ ap (λ (ps : List (List ℕ)). c.self.inside.told.pages ++ ps) c.pages.ensures.pages
-    ∙ ap (λ (x : Reading). x.told ++ c.into_pages-part.result.pages) c.self.view_is)
+    (c.note_pages.ensures ∙ ap (λ (ps : List (List ℕ)). c.self.inside.yielded.pages ++ ps) c.pages.ensures.pages
+    ∙ ap (λ (x : Reading). x.yielded ++ c.into_pages-part.result.pages) c.self.view_is)
     c.into_pages-part.ensures.day

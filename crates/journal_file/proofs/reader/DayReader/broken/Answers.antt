@@ -22,5 +22,5 @@ returns-then-left-ge-TORN_LIMIT g c =
     λ more. sum-stays r.left more (c.requires.front ∙ ap Some sum) ∙ ap Some (sym sum) in
     refused-here _ r (NoFile c.count.result c.args.fault)
     (subst (λ (n : ℕ). (more : List ℕ) → IsNoFile (r.read ++ more) n c.args.fault) count
-    (damaged r.read r.left r.taken r.held r.told is c.args.fault why
+    (damaged r.read r.left r.taken r.held r.yielded is c.args.fault why
     (subst (λ (l : List ℕ). torn_limit ≤ length l) left c.if-left-ge-TORN_LIMIT.true)))

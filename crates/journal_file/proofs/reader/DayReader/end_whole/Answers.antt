@@ -14,7 +14,7 @@ returns-in-Err g c =
         left = w.left;
         taken = c.self.inside.judge;
         held = texts c.self.inside.held.items;
-        told = c.self.inside.told.pages;
+        yielded = c.self.inside.yielded.pages;
       }) c.in-Err.ensures.0 ∙ c.self.view_is,
       c.in-Err.ensures.1,
       c.in-Err.ensures.2,

@@ -21,7 +21,7 @@ returns-then-not-is_unfinished c =
     let count : min (length r.taken) 4_294_967_295 ≡ c.count.result =
     ap (λ (x : Reading). min (length x.taken) 4_294_967_295) (sym c.self.view_is) ∙ sym c.count.ensures in
     subst (λ (n : ℕ). IsNoFile r.read n c.args.fault) count
-    (broken r.read r.left r.taken r.held r.told is c.args.fault c.requires.front lasting)
+    (broken r.read r.left r.taken r.held r.yielded is c.args.fault c.requires.front lasting)
 
 pub returns-in-Err : goal.returns-in-Err
 returns-in-Err c =
@@ -33,7 +33,7 @@ returns-in-Err c =
     let why : day_fault (version_of r.taken) r.taken ≡ Some (c.in-Err.fault.0, c.in-Err.fault.1) =
     ap (λ (x : Reading). day_fault (version_of x.taken) x.taken) (sym c.self.view_is) ∙ c.in-Err.ensures in
     told-at-end r.read c.in-Err.fault.0 (whys.Page c.in-Err.fault.1) c.wrong_page.result c.wrong_page.ensures
-    (open-at-end r.read r.left r.taken r.held r.told is c.in-Err.fault.0 c.in-Err.fault.1 un why)
+    (open-at-end r.read r.left r.taken r.held r.yielded is c.in-Err.fault.0 c.in-Err.fault.1 un why)
 
 pub returns-then-is_empty : goal.returns-then-is_empty
 returns-then-is_empty c =
@@ -46,7 +46,7 @@ returns-then-is_empty c =
     ap (λ (x : Reading). day_fault (version_of x.taken) x.taken) (sym c.self.view_is)
     ∙ no-error _ c.end.result c.in_default.not-Err c.end.ensures in
     let none : r.left ≡ [] = sym left ∙ is-none c.left-left.result.now (sym c.is_empty.ensures ∙ c.if-is_empty.true) in
-    says r.read r.left r.taken r.held r.told is GoesOn day c.requires.whole (none, un)
+    says r.read r.left r.taken r.held r.yielded is GoesOn day c.requires.whole (none, un)
 
 pub returns : goal.returns
 returns c =
@@ -58,5 +58,5 @@ returns c =
     let day : day_fault (version_of r.taken) r.taken ≡ None =
     ap (λ (x : Reading). day_fault (version_of x.taken) x.taken) (sym c.self.view_is)
     ∙ no-error _ c.end.result c.in_default.not-Err c.end.ensures in
-    says r.read r.left r.taken r.held r.told is (Torn (length c.left-left.result.now)) day c.requires.whole
+    says r.read r.left r.taken r.held r.yielded is (Torn (length c.left-left.result.now)) day c.requires.whole
     (is-some (length c.left-left.result.now) (sym c.is_empty.ensures ∙ c.if-is_empty.false), ap length left, un)

@@ -10,12 +10,12 @@ pub returns-clause-given : goal.returns-clause-given
 returns-clause-given c =
     let held : List (List ℕ) = texts c.self.inside.held.items in
     let is = in-mode c.self.inside.mode c.self.inside.window.read c.self.inside.window.left c.self.inside.judge held
-    c.self.inside.told.pages (ap (λ (r : Reading). r.mode) c.self.view_is ∙ c.requires.pages) c.self.invariant in
+    c.self.inside.yielded.pages (ap (λ (r : Reading). r.mode) c.self.view_is ∙ c.requires.pages) c.self.invariant in
     let whole = whole-along c.self.inside.judge c.args.self.now.taken (ap (λ (r : Reading). r.taken) c.self.view_is)
     c.requires.whole in
-    go-along c.self.inside.told.pages c.args.self.now.told (c.self.inside.told.pages ++ held) c.note_pages.new.told.pages
-    (kept_in held) c.of.result (ap (λ (r : Reading). r.told) c.self.view_is)
+    go-along c.self.inside.yielded.pages c.args.self.now.yielded (c.self.inside.yielded.pages ++ held) c.note_pages.new.noted.pages
+    (kept_in held) c.of.result (ap (λ (r : Reading). r.yielded) c.self.view_is)
     (sym (c.of.ensures ∙ ap (λ (v : Vec (Vec ℕ Global) Global). kept_in (texts v.items)) c.replace-held.ensures.value))
-    (sym (c.note_pages.ensures ∙ ap (λ (ps : List (Vec ℕ Global)). c.self.inside.told.pages ++ texts ps)
+    (sym (c.note_pages.ensures ∙ ap (λ (ps : List (Vec ℕ Global)). c.self.inside.yielded.pages ++ texts ps)
     (c.as_slice.ensures.value ∙ ap (λ (v : Vec (Vec ℕ Global) Global). v.items) c.replace-held.ensures.value)))
-    (given c.self.inside.window.read c.self.inside.window.left c.self.inside.judge held c.self.inside.told.pages is whole)
+    (given c.self.inside.window.read c.self.inside.window.left c.self.inside.judge held c.self.inside.yielded.pages is whole)

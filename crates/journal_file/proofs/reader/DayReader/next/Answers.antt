@@ -6,4 +6,4 @@ pub returns-in-Ok-Some-clause-read : goal.returns-in-Ok-Some-clause-read
 returns-in-Ok-Some-clause-read g c = reads-both _ _ _ _ _ _ c.loop.invariant.read c.step.ensures.read
 
 pub returns-clause-refused : goal.returns-clause-refused
-returns-clause-refused g c = (c.loop.invariant.told, inl (λ more. tt))
+returns-clause-refused g c = (c.loop.invariant.yielded, inl (λ more. tt))

@@ -6,5 +6,5 @@ use Rattle.journal_file.proofs.reader.DayReader.next.Given as goal
 abbrev pub invariant-loop : goal.invariant-loop
 invariant-loop g l = record {
   read : ReadsOn (g.R.Read.remaining l.initial.input) (g.R.Read.remaining l.input) l.initial.self.read l.self.read;
-  told : l.self.told ≡ l.initial.self.told;
+  yielded : l.self.yielded ≡ l.initial.self.yielded;
 }

@@ -21,7 +21,7 @@ returns-in-Err g c =
     ap (λ (x : Reading). day_fault (version_of x.taken) x.taken) (sym c.self.view_is) ∙ c.in-Err.ensures in
     refused-here _ r c.wrong_page.result
     (told-by r.read c.in-Err.fault.0 (whys.Page c.in-Err.fault.1) c.wrong_page.result c.wrong_page.ensures
-    (open-before-end r.read r.left r.taken r.held r.told is c.requires.front.behind c.in-Err.fault.0 c.in-Err.fault.1
+    (open-before-end r.read r.left r.taken r.held r.yielded is c.requires.front.behind c.in-Err.fault.0 c.in-Err.fault.1
     (front-end r.left c.requires.front) why))
 
 pub returns-then-left-gt16 : goal.returns-then-left-gt16
@@ -41,7 +41,7 @@ returns-then-left-gt16 g c =
     (told-by r.read c.count.result (whys.Page pages.Head) c.wrong_page-then-left-gt16.result
     c.wrong_page-then-left-gt16.ensures
     (subst (λ (n : ℕ). (more : List ℕ) → IsNoFile (r.read ++ more) n (whys.Page pages.Head)) count
-    (more-behind-end r.read r.left r.taken r.held r.told is c.requires.front.behind front
+    (more-behind-end r.read r.left r.taken r.held r.yielded is c.requires.front.behind front
     (omega (arith, all, long, c.if-left-gt16.true)) day)))
 
 pub returns : goal.returns
@@ -56,6 +56,6 @@ returns g c =
     let none = subst (λ (b : Bool). HasMore (g.R.Read.remaining c.args.input.now) (g.R.Read.remaining
     c.read_more.new.input) r c.read_more.new.self b) c.if-has_more.false c.in-Ok.ensures in
     ends _ _ r c.read_more.new.self Over none.0 none.1 none.2
-    (subst (λ (x : Reading). Says x.read (kept_in x.told) Over) (sym none.0)
+    (subst (λ (x : Reading). Says x.read (kept_in x.yielded) Over) (sym none.0)
     (over-says r c.requires.front.behind is (front-end r.left c.requires.front)
     (omega (arith, long, c.if-left-gt16.false)) day c.requires.whole))

@@ -18,14 +18,14 @@ returns-in-Err-clause-refused c =
     let held : List (List ℕ) = texts c.self.inside.held.items in
     let left : c.self.inside.window.left ≡ c.args.self.now.left = ap (λ (r : Reading). r.left) c.self.view_is in
     let is = in-mode c.self.inside.mode c.self.inside.window.read c.self.inside.window.left c.self.inside.judge held
-    c.self.inside.told.pages (ap (λ (r : Reading). r.mode) c.self.view_is ∙ c.requires.pages) c.self.invariant in
+    c.self.inside.yielded.pages (ap (λ (r : Reading). r.mode) c.self.view_is ∙ c.requires.pages) c.self.invariant in
     let page : c.split_at-2.result.0.now ≡ front.page =
     c.split_at-2.ensures.front ∙ ap (take c.args.size) (c.split_at.ensures.back ∙ ap (drop 16) c.left.ensures)
     ∙ front-page c.self.inside.window.left front.page front.behind c.args.size (left ∙ front.same) front.sized in
     wrong-by c.self.inside.window.read c.self.inside.judge front.page c.in-Err.fault
     (wrong-along c.self.inside.judge c.self.inside.judge c.split_at-2.result.0.now front.page c.in-Err.fault refl page c.in-Err.ensures.2)
     (λ n why found more. wrong-page c.self.inside.window.read c.self.inside.window.left c.self.inside.judge held
-    c.self.inside.told.pages is front.page front.behind n why (left ∙ front.same)
+    c.self.inside.yielded.pages is front.page front.behind n why (left ∙ front.same)
     (some front.page c.args.size front.sized c.requires.some) found more)
 
 pub invariant_of-self-2 : goal.invariant_of-self-2
@@ -35,7 +35,7 @@ invariant_of-self-2 c =
     let left : c.self.inside.window.left ≡ c.args.self.now.left = ap (λ (r : Reading). r.left) c.self.view_is in
     let mode : c.self.inside.mode ≡ Pages = ap (λ (r : Reading). r.mode) c.self.view_is ∙ c.requires.pages in
     let is = in-mode c.self.inside.mode c.self.inside.window.read c.self.inside.window.left c.self.inside.judge held
-    c.self.inside.told.pages mode c.self.invariant in
+    c.self.inside.yielded.pages mode c.self.invariant in
     let page : c.split_at-2.result.0.now ≡ front.page =
     c.split_at-2.ensures.front ∙ ap (take c.args.size) (c.split_at.ensures.back ∙ ap (drop 16) c.left.ensures)
     ∙ front-page c.self.inside.window.left front.page front.behind c.args.size (left ∙ front.same) front.sized in
@@ -49,7 +49,7 @@ invariant_of-self-2 c =
     let behind : c.pass.new.self.left ≡ front.behind = c.pass.ensures.left
     ∙ front-behind c.self.inside.window.left front.page front.behind c.args.size (left ∙ front.same) front.sized in
     subst (λ (m : Mode). IsReading m c.pass.new.self.read c.pass.new.self.left c.hold.new.judge
-    (texts c.hold.new.held.items) c.self.inside.told.pages) (sym mode)
+    (texts c.hold.new.held.items) c.self.inside.yielded.pages) (sym mode)
     (pages-along _ _ _ _ _ _ _ _ _ _ (sym c.pass.ensures.read) (sym behind) (sym judged) (sym kept) refl
-    (took c.self.inside.window.read c.self.inside.window.left c.self.inside.judge held c.self.inside.told.pages is
+    (took c.self.inside.window.read c.self.inside.window.left c.self.inside.judge held c.self.inside.yielded.pages is
     front.page front.behind (left ∙ front.same) (some front.page c.args.size front.sized c.requires.some) none))

@@ -1,7 +1,7 @@
 use Rattle.std.proofs.Common.{◌∷◌, arith}
 use Rattle.std.proofs.lemmas.Result.{IfOk-weaker}
-use Rattle.order_ledger.specs.fix_types.Application.{message_fields}
-use Rattle.order_ledger.specs.to_market.PortsSeen.{port_seen}
+use Rattle.fix_types.specs.Application.{message_fields}
+use Rattle.to_market.specs.PortsSeen.{port_seen}
 use Rattle.order_machine.proofs.Known.{asked-found}
 use Rattle.order_machine.proofs.Numbers.{number-of}
 use Rattle.order_machine.proofs.Running.{headline-of}

@@ -1,6 +1,6 @@
 use Rattle.std.proofs.Common.{refl, subst, ◌∙◌, decimal}
 use Rattle.outstanding.specs.order_law.History.{terms_of}
-use Rattle.order_ledger.specs.to_market.PortsSeen.{port_seen}
+use Rattle.to_market.specs.PortsSeen.{port_seen}
 use Rattle.order_core.specs.declared.outcome.CoreOut.{CoreOut}
 use Rattle.order_core.specs.Meets.{MeetsClient}
 use Rattle.order_core.specs.State.{OrderCoreState}

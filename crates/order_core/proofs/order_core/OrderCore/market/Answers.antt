@@ -1,7 +1,7 @@
 use Rattle.std.proofs.Common.{◌∷◌, ◌<◌, ◌^◌, List, arith, length, subst, Result}
-use Rattle.order_ledger.specs.market_messages.ouch_codec.declared.outbound.Outbound.{Outbound}
-use Rattle.order_ledger.specs.market_messages.ouch_codec.declared.refusal.DecodeRefusal.{DecodeRefusal}
-use Rattle.order_ledger.specs.market_messages.ouch_codec.Values.{decoded}
+use Rattle.market_messages.specs.ouch_codec.declared.outbound.Outbound.{Outbound}
+use Rattle.market_messages.specs.ouch_codec.declared.refusal.DecodeRefusal.{DecodeRefusal}
+use Rattle.market_messages.specs.ouch_codec.Values.{decoded}
 use Rattle.outstanding.specs.order_law.History.{OrderHistory, Terms, OrderTurn}
 use Rattle.order_machine.specs.Runs.{NumbersLeft}
 use Rattle.order_machine.proofs.Running.{headline-of}

@@ -1,5 +1,5 @@
 use Rattle.std.proofs.Common.{map}
-use Rattle.order_ledger.specs.to_market.TermsSeen.{terms_seen}
+use Rattle.to_market.specs.TermsSeen.{terms_seen}
 use Rattle.outstanding.proofs.InTurns.{nothing-is_kept}
 use Rattle.order_core.proofs.Turns.{empty-after, seen_by}
 use Rattle.order_core.proofs.order_core.OrderCore.new.Goals as goal

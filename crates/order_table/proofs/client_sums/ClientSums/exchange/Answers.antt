@@ -1,6 +1,6 @@
 use Rattle.std.proofs.Common.{◌≡◌, List, ap, ◌∙◌, slice_set, subst, sym}
 use Rattle.std.specs.Prelude.{◌==◌}
-use Rattle.hint_index.specs.undo_list.Undoing.{Undoable}
+use Rattle.undo_index.specs.Undoing.{Undoable}
 use Rattle.order_table.specs.declared.sums.Sums.{Sums}
 use Rattle.order_table.specs.Sums.{IsExchanged, sums_at}
 use Rattle.order_table.proofs.Summed.{exchanged-at, exchanged_for}

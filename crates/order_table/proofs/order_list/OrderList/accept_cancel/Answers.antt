@@ -1,7 +1,7 @@
 use Rattle.std.proofs.Common.{◌≡◌, ℕ, true, refl, ap, ◌∙◌, subst}
 use Rattle.std.specs.Prelude.{Some}
-use Rattle.hint_index.proofs.Standing.{covered-same}
-use Rattle.hint_index.specs.Hints.{Covered, LeadsTo, hint_of}
+use Rattle.undo_index.proofs.Standing.{covered-same}
+use Rattle.undo_index.specs.Hints.{Covered, LeadsTo, hint_of}
 use Rattle.order_machine.specs.OrderRecord.{at}
 use Rattle.undo_orders.specs.Seen.{cancel_of}
 use Rattle.order_table.specs.declared.keys.NameKey.{NameKey}

@@ -1,7 +1,7 @@
 use Rattle.std.proofs.Common.{◌<◌, length, sym, subst}
 use Rattle.order_machine.specs.OrderRecord.{OrderRecord}
 use Rattle.undo_orders.specs.Changes.{changed_by}
-use Rattle.hint_index.specs.undo_list.Undoing.{Undoable}
+use Rattle.undo_index.specs.Undoing.{Undoable}
 use Rattle.order_table.specs.Names.{KeepsNames}
 use Rattle.order_table.proofs.Changing.{led-changed}
 use Rattle.order_table.proofs.Named.{change-names, item-at}

@@ -1,10 +1,10 @@
 use Rattle.std.proofs.Common.{◌≡◌, List, reverse, sym, subst}
 use Rattle.std.specs.Prelude.{None, MatchOption}
 use Rattle.std.specs.List.{find}
-use Rattle.hint_index.specs.Newest.{IsNewest}
-use Rattle.hint_index.specs.undo_list.Undoing.{Undoable}
-use Rattle.hint_index.proofs.Standing.{led-by}
-use Rattle.hint_index.specs.Hints.{LedBy, hint_of}
+use Rattle.undo_index.specs.Newest.{IsNewest}
+use Rattle.undo_index.specs.Undoing.{Undoable}
+use Rattle.undo_index.proofs.Standing.{led-by}
+use Rattle.undo_index.specs.Hints.{LedBy, hint_of}
 use Rattle.order_machine.specs.OrderRecord.{OrderRecord}
 use Rattle.order_machine.specs.Table.{is_named}
 use Rattle.order_table.specs.declared.keys.NameKey.{NameKey}

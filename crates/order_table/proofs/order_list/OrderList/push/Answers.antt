@@ -1,7 +1,7 @@
 use Rattle.std.proofs.Common.{◌≤◌, List, length, sym, ap, subst, arith}
-use Rattle.hint_index.proofs.Standing.{covered-pushed}
+use Rattle.undo_index.proofs.Standing.{covered-pushed}
 use Rattle.order_machine.specs.OrderRecord.{OrderRecord}
-use Rattle.hint_index.specs.undo_list.Undoing.{Undoable}
+use Rattle.undo_index.specs.Undoing.{Undoable}
 use Rattle.order_table.specs.Keys.{has_name_key, has_number_key, same_name, same_number}
 use Rattle.order_table.proofs.Named.{number-leads}
 use Rattle.order_table.proofs.Rooms.{room-in-order}

@@ -4,8 +4,8 @@ use Rattle.std.specs.List.{find}
 use Rattle.order_machine.specs.OrderRecord as record_of
 use Rattle.order_machine.specs.OrderRecord.{OrderRecord, at}
 use Rattle.order_machine.specs.Table.{has_number}
-use Rattle.hint_index.proofs.Newest.{newest-there}
-use Rattle.hint_index.specs.Newest.{IsNewest}
+use Rattle.undo_index.proofs.Newest.{newest-there}
+use Rattle.undo_index.specs.Newest.{IsNewest}
 use Rattle.order_table.specs.Held.{Held, changed, with_number}
 use Rattle.undo_orders.specs.Seen.{cancel_of, cancel_seen}
 use Rattle.order_table.proofs.Changing.{cancel-as}

@@ -6,8 +6,8 @@ use Rattle.std.specs.List.{find, count_by}
 use Rattle.undo_orders.specs.orders.order_law.History.{Entry}
 use Rattle.order_machine.specs.OrderRecord.{OrderRecord, at}
 use Rattle.order_machine.specs.Table.{GivenToken, has_number, is_replacement_of, put}
-use Rattle.hint_index.proofs.Newest.{newest-there}
-use Rattle.hint_index.specs.Newest.{IsNewest}
+use Rattle.undo_index.proofs.Newest.{newest-there}
+use Rattle.undo_index.specs.Newest.{IsNewest}
 use Rattle.order_table.specs.Held.{Held, is_counted, with_number}
 use Rattle.undo_orders.specs.Seen.{replace_of, replace_seen}
 use Rattle.order_table.proofs.Changing.{replace-as}

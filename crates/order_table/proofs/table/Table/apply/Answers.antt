@@ -4,7 +4,7 @@ use Rattle.std.specs.Prelude.{◌==◌, Some}
 use Rattle.std.specs.List.{find}
 use Rattle.order_machine.specs.OrderRecord.{OrderRecord}
 use Rattle.order_machine.specs.Table.{has_number}
-use Rattle.hint_index.specs.Newest.{IsNewest}
+use Rattle.undo_index.specs.Newest.{IsNewest}
 use Rattle.order_table.specs.declared.sums.Sums.{Sums}
 use Rattle.order_table.specs.Held.{Held, changed, is_placed, tokens_had, with_number}
 use Rattle.order_table.specs.Sums.{AreSums, IsExchanged, sums_at, sums_of}

@@ -1,8 +1,8 @@
 use Rattle.std.proofs.Common.{◌≤◌, List, length, refl, sym, ap, ◌∙◌, subst, arith}
-use Rattle.hint_index.proofs.Standing.{covered-pushed}
-use Rattle.hint_index.specs.Hints.{LeadsTo, hint_of}
+use Rattle.undo_index.proofs.Standing.{covered-pushed}
+use Rattle.undo_index.specs.Hints.{LeadsTo, hint_of}
 use Rattle.order_machine.specs.Table.{GivenToken}
-use Rattle.hint_index.specs.undo_list.Undoing.{Undoable}
+use Rattle.undo_index.specs.Undoing.{Undoable}
 use Rattle.order_table.specs.declared.token_key.TokenKey.{TokenKey}
 use Rattle.order_table.specs.Keys.{has_token_key}
 use Rattle.order_table.specs.TokenKeys.{same_token_key, token_key}

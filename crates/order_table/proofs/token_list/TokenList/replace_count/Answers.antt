@@ -1,7 +1,7 @@
 use Rattle.std.proofs.Common.{decimal, ap, ◌∙◌, arith}
 use Rattle.std.specs.List.{count_by}
 use Rattle.order_machine.specs.Table.{GivenToken, is_replacement_of}
-use Rattle.hint_index.specs.undo_list.Undoing.{Undoable}
+use Rattle.undo_index.specs.Undoing.{Undoable}
 use Rattle.order_table.proofs.token_list.TokenList.replace_count.Goals as goal
 
 pub returns : goal.returns

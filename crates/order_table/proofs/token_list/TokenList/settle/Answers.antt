@@ -1,4 +1,4 @@
-use Rattle.hint_index.proofs.Standing.{covered-settled}
+use Rattle.undo_index.proofs.Standing.{covered-settled}
 use Rattle.order_table.specs.Keys.{has_token_key}
 use Rattle.order_table.specs.TokenKeys.{same_token_key}
 use Rattle.order_table.proofs.Replaces.{replaces-same}

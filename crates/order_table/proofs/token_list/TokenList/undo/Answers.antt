@@ -1,4 +1,4 @@
-use Rattle.hint_index.proofs.Standing.{covered-undone}
+use Rattle.undo_index.proofs.Standing.{covered-undone}
 use Rattle.order_table.specs.Keys.{has_token_key}
 use Rattle.order_table.specs.TokenKeys.{same_token_key}
 use Rattle.order_table.proofs.Replaces.{replaces-same}

@@ -1,6 +1,6 @@
 use Rattle.std.proofs.Common.{length, OnOk, rules}
 use Rattle.std.proofs.lemmas.Result.{on_ok_weaker}
-use Rattle.stream_buffer.specs.Buffer.{Takes}
+use Rattle.wire_streams.specs.Buffer.{Takes}
 use Rattle.soup_packets.specs.Stream.{BeginsEmpty}
 use Rattle.soup_packets.proofs.Streams.{fed_ended_more, fed_put}
 use Rattle.soup_packets.proofs.packets.Packets.put.Goals as goal

@@ -1,6 +1,6 @@
 use Rattle.std.proofs.Common.{rules, ◌≡◌, ℕ, List, get_or, drop, arith, sym, ap, ◌∙◌}
 use Rattle.std.proofs.lemmas.List.{get_or-take}
-use Rattle.decimal_digits.proofs.Numbers.{number_of_short}
+use Rattle.wire_bytes.proofs.Numbers.{number_of_short}
 use Rattle.tokens.specs.TokenText.{last_digits}
 use Rattle.tokens.proofs.Digits.{no_digits, spelled_all, digits_behind, token_number, text_from}
 use Rattle.tokens.proofs.token.Token.number.Goals as goal

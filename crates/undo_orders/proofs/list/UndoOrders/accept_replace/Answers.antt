@@ -3,7 +3,7 @@ use Rattle.std.specs.Prelude.{Some}
 use Rattle.orders.specs.order_machine.OrderRecord.{OrderRecord, at}
 use Rattle.orders.specs.PutBack.{put_back}
 use Rattle.orders.specs.Seen.{replace_of}
-use Rattle.hint_index.specs.undo_list.Undoing.{Undoable}
+use Rattle.undo_index.specs.Undoing.{Undoable}
 use Rattle.undo_orders.specs.declared.list.Was.{Was}
 use Rattle.undo_orders.proofs.Putting.{kept}
 use Rattle.undo_orders.proofs.list.UndoOrders.accept_replace.Goals as goal

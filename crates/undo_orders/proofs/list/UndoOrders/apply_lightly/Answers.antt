@@ -4,7 +4,7 @@ use Rattle.std.proofs.lemmas.Option.{slice_get-get_or}
 use Rattle.orders.specs.order_machine.OrderRecord.{OrderRecord}
 use Rattle.orders.specs.Changes.{changed_by}
 use Rattle.orders.specs.PutBack.{put_back}
-use Rattle.hint_index.specs.undo_list.Undoing.{Undoable}
+use Rattle.undo_index.specs.Undoing.{Undoable}
 use Rattle.undo_orders.specs.declared.list.Was.{Was}
 use Rattle.undo_orders.proofs.Putting.{kept}
 use Rattle.undo_orders.proofs.list.UndoOrders.apply_lightly.Goals as goal

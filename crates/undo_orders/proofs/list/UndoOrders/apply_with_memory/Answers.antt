@@ -2,7 +2,7 @@ use Rattle.std.proofs.Common.{◌<◌, ◌++◌, ◌∷◌, List, [], length, sy
 use Rattle.orders.specs.order_machine.OrderRecord.{OrderRecord}
 use Rattle.orders.specs.Changes.{changed_by}
 use Rattle.orders.specs.PutBack.{put_back}
-use Rattle.hint_index.specs.undo_list.Undoing.{Undoable}
+use Rattle.undo_index.specs.Undoing.{Undoable}
 use Rattle.undo_orders.specs.declared.list.Was.{Was}
 use Rattle.undo_orders.proofs.Putting.{kept}
 use Rattle.undo_orders.proofs.list.UndoOrders.apply_with_memory.Goals as goal

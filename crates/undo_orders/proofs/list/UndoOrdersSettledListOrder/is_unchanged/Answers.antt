@@ -1,7 +1,7 @@
 use Rattle.std.proofs.Common.{◌≡◌, length, sym, ◌∙◌, subst, eqb-true, arith}
 use Rattle.std.specs.Prelude.{vec_len}
 use Rattle.orders.specs.order_machine.OrderRecord.{OrderRecord}
-use Rattle.hint_index.specs.undo_list.Undoing.{IsWithin, Undoable}
+use Rattle.undo_index.specs.Undoing.{IsWithin, Undoable}
 use Rattle.undo_orders.proofs.Putting.{settled-still}
 use Rattle.undo_orders.proofs.list.UndoOrdersSettledListOrder.is_unchanged.Goals as goal
 

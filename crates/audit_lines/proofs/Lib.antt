@@ -1,1 +1,0 @@
-pub use Rattle.text_lines.proofs as text_lines

@@ -1,7 +1,0 @@
-use Rattle.std.proofs.Common.{◌≡◌, take}
-use Rattle.std.specs.List.{flat_map}
-use Rattle.audit_lines.specs.Lines as shown
-use Rattle.audit_lines.proofs.lines.audit_text.Given as goal
-
-abbrev pub invariant-loop-pair : goal.invariant-loop-pair
-invariant-loop-pair l = l.text.items ≡ flat_map shown.shown_pair (take l.pair-index l.pairs)

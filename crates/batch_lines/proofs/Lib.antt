@@ -1,4 +1,0 @@
-mod Fields
-mod Layouts
-mod ToMarket
-mod Whole

@@ -1,8 +1,0 @@
--- What was taken is added, with a bar for each SOH.
-use Rattle.std.proofs.Common.{◌≡◌, ◌++◌, take}
-use Rattle.std.specs.Prelude.{map}
-use Rattle.batch_lines.specs.Frames.{barred}
-use Rattle.batch_lines.proofs.frames.push_whole.Given as goal
-
-abbrev pub invariant-loop-byte : goal.invariant-loop-byte
-invariant-loop-byte l = l.text.items ≡ l.initial.text.items ++ map barred (take l.byte-index l.bytes)

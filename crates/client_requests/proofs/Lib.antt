@@ -1,6 +1,0 @@
-mod Standing
-mod Steps
-mod Sending
-mod AcceptedCancel
-mod AcceptedReplace
-mod Pending

@@ -1,5 +1,0 @@
-use Rattle.std.proofs.Common.{length}
-use Rattle.client_requests.proofs.cancels.+push_cancels.Given as goal
-
-abbrev pub decreases-push_cancels : goal.decreases-push_cancels
-decreases-push_cancels l = length l.replaces.now

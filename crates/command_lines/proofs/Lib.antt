@@ -1,0 +1,3 @@
+pub mod Folds
+mod Parsing
+mod ScriptParsing

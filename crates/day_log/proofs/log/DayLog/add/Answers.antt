@@ -1,9 +1,0 @@
-use Rattle.std.proofs.Common.{ap}
-use Rattle.day_log.specs.State.{LogState}
-use Rattle.day_log.proofs.Kept.{same-file}
-use Rattle.day_log.proofs.log.DayLog.add.Goals as goal
-
-pub returns-in_err-append_sized-clause-crash : goal.returns-in_err-append_sized-clause-crash
-returns-in_err-append_sized-clause-crash g c =
-    same-file g.F.LogFile.may_leave c.self.inside.file c.args.self.now.file
-    (ap (λ (z : LogState g.row.F.Denot). z.file) c.self.view_is)

@@ -1,4 +1,0 @@
-pub mod Places
-pub mod Naming
-pub mod Sent
-pub mod Sizes

@@ -1,7 +1,0 @@
-use Rattle.std.proofs.Common.{take}
-use Rattle.desk_rings.specs.Made.{MadeLists}
-use Rattle.desk_rings.proofs.making.told_rings.Given as goal
-
--- those of the recipients so far
-abbrev pub invariant-loop-to : goal.invariant-loop-to
-invariant-loop-to l = MadeLists (take l.to-index l.recipients) l.ways.items l.rings.items

@@ -1,3 +1,0 @@
-mod Ahead
-mod Rounding
-pub mod Sent

@@ -1,7 +1,0 @@
-use Rattle.std.proofs.Common.{rules}
-use Rattle.gateway_command.specs.Seen.{asked_seen}
-use Rattle.gateway_command.proofs.command.serve_asked.Goals as goal
-
-pub returns-in-Some : goal.returns-in-Some
-unfolding asked_seen
-returns-in-Some c = search rules

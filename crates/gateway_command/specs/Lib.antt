@@ -1,4 +1,0 @@
-pub mod Command
-mod Examples
-pub mod Rows
-pub mod Seen

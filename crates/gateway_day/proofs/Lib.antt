@@ -1,0 +1,2 @@
+mod Audited
+mod Back

@@ -1,0 +1,6 @@
+pub mod Faults
+pub mod Rows
+mod Examples
+pub mod Waits
+pub mod Resends
+pub mod Standstills

@@ -1,4 +1,0 @@
-pub mod Keys
-pub mod Newest
-pub mod Noting
-pub mod Standing

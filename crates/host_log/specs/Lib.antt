@@ -1,3 +1,0 @@
-pub mod Left
-pub mod Seen
-pub mod Whole

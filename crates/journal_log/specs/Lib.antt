@@ -1,0 +1,12 @@
+pub mod Crash
+pub mod Log
+pub mod State
+pub mod Left
+pub mod Seen
+pub mod Whole
+pub mod Kept
+pub mod Marks
+pub mod Since
+pub use Rattle.journal_days.specs.Cut
+pub use Rattle.journal_file.specs.File
+pub use Rattle.journal_file.specs.Said

@@ -1,2 +1,0 @@
-pub mod Resends
-pub mod Standstills

@@ -1,7 +1,0 @@
-use Rattle.new_orders.proofs.Entering.{refused-in}
-use Rattle.new_orders.proofs.refusing.refuse.Goals as goal
-
-pub returns : goal.returns
-returns c = λ s sender held is_used after verdict.
-    refused-in s c.args.order_ids c.args.exec_ids sender held is_used c.args.order.now after c.args.row
-    c.in_ok-body.body verdict c.in_ok-body.ensures

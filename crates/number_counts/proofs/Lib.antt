@@ -1,2 +1,0 @@
-mod Rooms
-mod Counting

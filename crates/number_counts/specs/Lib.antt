@@ -1,3 +1,0 @@
-pub mod Counts
-pub mod CountLaws
-pub use Rattle.hint_index.specs.undo_list.Undoing

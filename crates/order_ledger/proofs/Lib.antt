@@ -1,5 +1,0 @@
-mod Used
-mod Terms
-mod Stepped
-mod Heard
-pub mod Sent

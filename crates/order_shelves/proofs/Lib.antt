@@ -1,4 +1,0 @@
-mod Placing
-pub mod Shelving
-mod Ordering
-mod LivedAlike

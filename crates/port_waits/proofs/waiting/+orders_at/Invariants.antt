@@ -1,5 +1,0 @@
-use Rattle.std.proofs.Common.{length}
-use Rattle.port_waits.proofs.waiting.+orders_at.Given as goal
-
-abbrev pub decreases-orders_at : goal.decreases-orders_at
-decreases-orders_at l = length l.ports.now

@@ -1,2 +1,0 @@
-pub mod Same
-pub use Rattle.gate_journal.specs.Kept

@@ -1,2 +1,0 @@
-pub mod Command
-pub use Rattle.gate_lines.specs.Scripts

@@ -1,2 +1,0 @@
-pub mod ShortList
-pub mod Held

@@ -1,6 +1,0 @@
-mod GoesOn
-mod Read
-mod Behind
-mod Recent
-mod Since
-pub mod Keeping

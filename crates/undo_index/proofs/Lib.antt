@@ -1,0 +1,7 @@
+mod Putting
+pub mod Keys
+pub mod Newest
+pub mod Noting
+pub mod Standing
+mod Rooms
+mod Counting

@@ -1,5 +1,0 @@
-use Rattle.world_core.proofs.Asking.{client-after}
-use Rattle.world_core.proofs.laws.clients_send_what_they_ask.Goals as goal
-
-pub returns : goal.returns
-returns c = client-after

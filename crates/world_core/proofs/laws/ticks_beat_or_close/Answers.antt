@@ -1,8 +1,0 @@
-use Rattle.world_core.proofs.Comings.{tick-after, idle-after}
-use Rattle.world_core.proofs.laws.ticks_beat_or_close.Goals as goal
-
-pub returns-clause-linked : goal.returns-clause-linked
-returns-clause-linked c = tick-after
-
-pub returns-clause-unlinked : goal.returns-clause-unlinked
-returns-clause-unlinked c = idle-after

@@ -1,8 +1,0 @@
-use Rattle.world_core.proofs.Handled.{delivered-handled, wanted-handled}
-use Rattle.world_core.proofs.laws.what_is_delivered_is_handled.Goals as goal
-
-pub returns-clause-decoded : goal.returns-clause-decoded
-returns-clause-decoded c = delivered-handled
-
-pub returns-clause-number : goal.returns-clause-number
-returns-clause-number c = wanted-handled

@@ -1,3 +1,0 @@
-pub mod AskedSoFar
-pub mod ReadAlike
-pub mod AcceptedTotals

@@ -1,5 +1,0 @@
-use Rattle.world_links.proofs.AtRest.{fills-or-kills}
-use Rattle.world_links.proofs.laws.fill_or_kill_executes_all_or_nothing.Goals as goal
-
-pub returns : goal.returns
-returns c = fills-or-kills

@@ -1,5 +1,0 @@
-use Rattle.world_links.proofs.Moving.{not-handled}
-use Rattle.world_links.proofs.laws.logins_bring_what_is_not_handled.Goals as goal
-
-pub returns : goal.returns
-returns c = not-handled

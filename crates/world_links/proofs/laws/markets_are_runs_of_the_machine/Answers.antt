@@ -1,5 +1,0 @@
-use Rattle.world_links.proofs.Moving.{at-first, step-kept}
-use Rattle.world_links.proofs.laws.markets_are_runs_of_the_machine.Goals as goal
-
-pub returns : goal.returns
-returns c = record { first = at-first; step = λ ms s e read k. step-kept ms s k e read }

@@ -1,3 +1,0 @@
-pub mod Places
-mod Bytes
-mod Links
