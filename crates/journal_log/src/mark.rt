@@ -96,11 +96,22 @@ pub(crate) fn page_since(
     ensures { IfOk result (λ page. page.items
         ≡ page_front mark.now.records ++ bytes_since count mark.now.bytes (texts pages.now)) }
 {
-    let mut page = Vec::new(alloc);
+    let room = room_since(pages, count, mark.bytes);
+    let mut page = Vec::with_capacity(alloc, room)?;
     page.extend_from_slice(PAGE_NAME)?;
     page.extend_from_slice(&mark.records.to_be_bytes())?;
     append_since(&mut page, pages, count, mark.bytes)?;
     Ok(page)
+}
+
+/// How many bytes a page takes of the records that these pages have behind so many, of the last of which so many bytes
+/// count; a few more where that are several pages.
+fn room_since(pages: &[Vec<u8>], count: usize, bytes: usize) -> usize {
+    let mut size = 0_usize;
+    for page in pages_behind(pages, count.saturating_sub(1)) {
+        size = size.saturating_add(page.len());
+    }
+    size.saturating_sub(bytes).saturating_add(FRONT)
 }
 
 /// The records that these pages have behind so many, of the last of which so many bytes count.

@@ -1,5 +1,5 @@
 -- Steps of a reader, one after another.
-use Rattle.std.proofs.Common.{◌≡◌, ℕ, ◌≤◌, ◌++◌, Bool, true, false, List, [], ◌∷◌, length, Option, Some, None, Result}
+use Rattle.std.proofs.Common.{◌≡◌, ℕ, ◌≤◌, ◌++◌, Bool, true, false, List, [], ◌∷◌, length, Option, None, Result}
 use Rattle.std.proofs.Common.{Ok, Err, refl, sym, ◌∙◌, ap, subst, append_assoc, append-nil, arith}
 use Rattle.std.specs.Result.{IsErrAnd}
 use Rattle.std.specs.Io.KnownBytes.{Consumes}
@@ -12,7 +12,7 @@ use Rattle.link_io.specs.declared.link_fault.LinkFault.TheVariants.{NoMemory}
 use Rattle.link_io.specs.declared.progress.Progress.{Progress}
 use Rattle.link_io.specs.declared.progress.Progress.TheVariants.{Read, Ended, Held}
 use Rattle.link_io.specs.Reading.{Reading, AreAt, Gave, ComesFirst, Goes, GoesThrough, Offers, offered_list}
-use Rattle.link_io.specs.Reading.{FeedsPiece, MakesNext, Feeds, Stays, MadeAll, SaysPut, HasPut, Puts, SaysRead, Reads}
+use Rattle.link_io.specs.Reading.{FeedsPiece, MakesNext, SaysPut, HasPut, Puts, SaysRead, Reads}
 use Rattle.link_io.specs.Reading.{Fills}
 
 -- what a `?` hands on

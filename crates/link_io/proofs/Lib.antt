@@ -1,5 +1,6 @@
 mod Refilling
 mod Sending
+mod Piecing
 pub mod Going
 mod Framing
 mod Packeting

@@ -14,7 +14,8 @@ use Rattle.link_io.specs.declared.link_fault.LinkFault.{LinkFault}
 use Rattle.link_io.specs.declared.link_fault.LinkFault.TheVariants.{ReadFailed, WriteFailed, Malformed, StepLimit}
 use Rattle.link_io.specs.declared.link_fault.LinkFault.TheVariants.{NoMemory}
 use Rattle.link_io.specs.Writing.{WriterState, unwritten, link_bytes, lists_bytes, do_close, Joins, TakesList, Refills}
-use Rattle.link_io.specs.Writing.{Sends, Tells, Writes}
+use Rattle.link_io.specs.Writing.{HasSent, Sends, Tells, Writes, WritesOnce}
+use Rattle.link_io.proofs.Piecing.{nothing_left}
 
 pub joins_none : (a : WriterState) → Joins a a
 joins_none a = record { whole = refl; number = refl; link = refl; is_taken = refl; is_closing = refl; limit = refl }
@@ -205,53 +206,72 @@ writes_refused a b x y s p = record {
   tells = (refl, refl, p.is_taken, p.is_closing);
 }
 
-pub all_joined : (b : WriterState) → b.held ≡ [] → unwritten b ≡ b.bytes
-all_joined b none = ap (λ (h : List LinkOut). b.bytes ++ link_bytes b.link h) none ∙ append-nil b.bytes
-
-pub writes_err : (a b : WriterState) (x y : List (List LinkOut)) (s t : Option (List ℕ)) (fault : LinkFault)
-    → Refills a b x y → b.held ≡ []
-    → Sends {A = Unit {0}} (Err fault) b.bytes s t → Writes (Err fault) a b x y s t
-writes_err a b x y s t WriteFailed p none (rest, sent, some) = record {
+pub writes_err : (a b c : WriterState) (x y : List (List LinkOut)) (s t : Option (List ℕ)) (fault : LinkFault)
+    → Refills a b x y
+    → Sends {A = Unit {0}} (Err fault) (unwritten b) s t → c ≡ record b { bytes = c.bytes; held = c.held }
+    → Writes (Err fault) a c x y s t
+writes_err a b c x y s t WriteFailed p (rest, sent, some) left = record {
   taken = p.taken;
   written = sent.0;
   rest = rest;
   takes = p.takes;
   appends = sent.1;
-  whole = sym p.whole ∙ (all_joined b none ∙ sent.2);
-  number = p.number;
-  link = p.link;
-  stops = p.stops;
-  tells = some;
-}
-writes_err a b x y s t ReadFailed p none sent = absurd sent
-writes_err a b x y s t Malformed p none sent = absurd sent
-writes_err a b x y s t StepLimit p none sent = absurd sent
-writes_err a b x y s t NoMemory p none sent = absurd sent
-
-pub writes_all : (a b c : WriterState) (x y : List (List LinkOut)) (s t : Option (List ℕ)) (w : Wrote) → Refills a b x y
-    → b.held ≡ []
-    → Appends s t b.bytes → w ≡ record { bytes = length b.bytes; taken = b.is_taken; closed = b.is_closing }
-    → c ≡ record b { bytes = []; is_taken = false; is_closing = false } → Writes (Ok w) a c x y s t
-writes_all a b c x y s t w p none sent says left = record {
-  taken = p.taken;
-  written = b.bytes;
-  rest = [];
-  takes = p.takes;
-  appends = sent;
-  whole = sym p.whole ∙ (all_joined b none ∙ sym (append-nil b.bytes));
+  whole = sym p.whole ∙ sent.2;
   number = ap (λ (v : WriterState). v.number) left ∙ p.number;
   link = ap (λ (v : WriterState). v.link) left ∙ p.link;
   stops = p.stops;
+  tells = some;
+}
+writes_err a b c x y s t ReadFailed p sent left = absurd sent
+writes_err a b c x y s t Malformed p sent left = absurd sent
+writes_err a b c x y s t StepLimit p sent left = absurd sent
+writes_err a b c x y s t NoMemory p sent left = absurd sent
+
+pub writes_all : (a b c d : WriterState) (x y : List (List LinkOut)) (s t : Option (List ℕ)) (size : ℕ) (w : Wrote)
+    → Refills a b x y
+    → size ≡ length (unwritten b) → Appends s t (unwritten b) → c ≡ record b { bytes = c.bytes; held = c.held }
+    → (c.bytes ≡ []) × (c.held ≡ []) → w ≡ record { bytes = size; taken = c.is_taken; closed = c.is_closing }
+    → d ≡ record c { is_taken = false; is_closing = false } → Writes (Ok w) a d x y s t
+writes_all a b c d x y s t size w p is sent left (empty, none) says after = record {
+  taken = p.taken;
+  written = unwritten b;
+  rest = [];
+  takes = p.takes;
+  appends = sent;
+  whole = sym p.whole ∙ sym (append-nil (unwritten b));
+  number = ap (λ (v : WriterState). v.number) after ∙ (ap (λ (v : WriterState). v.number) left ∙ p.number);
+  link = ap (λ (v : WriterState). v.link) after ∙ (ap (λ (v : WriterState). v.link) left ∙ p.link);
+  stops = p.stops;
   tells = (
     refl,
-    ap (λ (v : Wrote). v.bytes) says,
-    ap (λ (v : Wrote). v.taken) says ∙ p.is_taken,
-    ap (λ (v : Wrote). v.closed) says ∙ p.is_closing,
-    ap unwritten left ∙ ap (λ (h : List LinkOut). link_bytes b.link h) none,
-    ap (λ (v : WriterState). v.is_taken) left,
-    ap (λ (v : WriterState). v.is_closing) left,
+    ap (λ (v : Wrote). v.bytes) says ∙ is,
+    ap (λ (v : Wrote). v.taken) says ∙ (ap (λ (v : WriterState). v.is_taken) left ∙ p.is_taken),
+    ap (λ (v : Wrote). v.closed) says ∙ (ap (λ (v : WriterState). v.is_closing) left ∙ p.is_closing),
+    ap unwritten after ∙ nothing_left c empty none,
+    ap (λ (v : WriterState). v.is_taken) after,
+    ap (λ (v : WriterState). v.is_closing) after,
   );
 }
+
+-- one write of what was joined
+pub writes_once : (a b c : WriterState) (x y : List (List LinkOut)) (s t : Option (List ℕ)) → Refills a b x y
+    → HasSent b.bytes c.bytes s t → c ≡ record b { bytes = c.bytes } → WritesOnce a c x y s t
+writes_once a b c x y s t p (w, sent, part) left =
+    let behind = link_bytes b.link b.held in
+    let rest : c.bytes ++ behind ≡ unwritten c = sym (ap unwritten left) in
+    record {
+      taken = p.taken;
+      written = w;
+      takes = p.takes;
+      appends = sent;
+      whole = sym p.whole ∙ (ap (λ (l : List ℕ). l ++ behind) part
+          ∙ (append_assoc w c.bytes behind ∙ ap (λ (l : List ℕ). w ++ l) rest));
+      number = ap (λ (v : WriterState). v.number) left ∙ p.number;
+      link = ap (λ (v : WriterState). v.link) left ∙ p.link;
+      is_taken = ap (λ (v : WriterState). v.is_taken) left ∙ p.is_taken;
+      is_closing = ap (λ (v : WriterState). v.is_closing) left ∙ p.is_closing;
+      stops = p.stops;
+    }
 
 -- the limit is another matter
 pub writes_limited : (answer : Result Wrote LinkFault) (a b : WriterState) (l m : Limit) (x y : List (List LinkOut))

@@ -1,5 +1,5 @@
 -- What a writer of a link has to write, and what a step of it does.
-use Rattle.std.specs.Prelude.{◌≡◌, ℕ, ◌<◌, ◌==◌, ◌++◌, Bool, true, false, not, ◌||◌, List, [], ◌∷◌, length}
+use Rattle.std.specs.Prelude.{◌≡◌, ◌≤◌, ◌⊎◌, ℕ, ◌<◌, ◌==◌, ◌++◌, Bool, true, false, not, ◌||◌, List, [], ◌∷◌, length}
 use Rattle.std.specs.Prelude.{Option, Some, Result, Ok, Err, if◌then◌else◌}
 use Rattle.std.specs.List.{flat_map, list_any}
 use Rattle.std.specs.Io.KnownBytes.{Appends}
@@ -53,6 +53,15 @@ pub record Joins (old new : WriterState) : Type 0 where
   pub is_closing : new.is_closing ≡ old.is_closing
   pub limit : new.limit ≡ old.limit
 
+-- nothing of a list is held, or so many bytes are joined that they are written first
+abbrev pub IsAllOrEnough : WriterState → Type 0
+IsAllOrEnough w = (w.held ≡ []) ⊎ (16384 ≤ length w.bytes)
+
+-- the bytes of the first item of a list
+abbrev pub next_bytes : ℕ → List LinkOut → List ℕ
+next_bytes link [] = []
+next_bytes link (out ∷ outs) = bytes_of_output link out
+
 -- a list was taken, where there was one
 abbrev pub TakesList : Bool → (old new : WriterState) → (taken_old taken_new : List (List LinkOut)) → Type 0
 TakesList false old new taken_old taken_new = (new ≡ old) × (taken_new ≡ taken_old)
@@ -95,6 +104,17 @@ Sends (Err ReadFailed) bytes sent_old sent_new = ⊥
 Sends (Err Malformed) bytes sent_old sent_new = ⊥
 Sends (Err StepLimit) bytes sent_old sent_new = ⊥
 Sends (Err NoMemory) bytes sent_old sent_new = ⊥
+
+-- of these bytes those in front went out, and the others are left, or, at a failure, aren't all written
+abbrev pub SendsPart : {A : Type 0} → Result A LinkFault → (bytes left : List ℕ) → Option (List ℕ) → Option (List ℕ)
+    → Type 0
+SendsPart (Ok done) bytes left sent_old sent_new = HasSent bytes left sent_old sent_new
+SendsPart (Err WriteFailed) bytes left sent_old sent_new =
+    (rest : List ℕ) × HasSent bytes rest sent_old sent_new × (0 < length rest)
+SendsPart (Err ReadFailed) bytes left sent_old sent_new = ⊥
+SendsPart (Err Malformed) bytes left sent_old sent_new = ⊥
+SendsPart (Err StepLimit) bytes left sent_old sent_new = ⊥
+SendsPart (Err NoMemory) bytes left sent_old sent_new = ⊥
 
 -- what a step says of the lists that were taken since it last said so, and of the bytes written, and what it leaves
 abbrev pub Tells : Result Wrote LinkFault → (to_write : List ℕ) → (is_taken is_closing : Bool) → (written rest : List ℕ)

@@ -2,7 +2,6 @@
 
 use crate::gate::Gate;
 use fix_fields::SOH;
-use gate_events::LinkOut;
 
 /// The size of `8=FIX.4.4` and of `9=` with one digit of BodyLength (9), behind which further ones and MsgType (35)
 /// follow.
@@ -28,9 +27,9 @@ impl SentNotes {
         }
     }
 
-    /// Notes what is joined, if it is such a frame of this link.
-    pub(crate) fn look(&mut self, link: u64, out: &LinkOut) {
-        if is_noted(link, out) {
+    /// Notes a frame that is joined, if it is such a one.
+    pub(crate) fn look(&mut self, frame: &[u8]) {
+        if is_noted_frame(frame) {
             self.is_noted = true;
         }
     }
@@ -43,14 +42,6 @@ impl SentNotes {
             self.is_noted = false;
         }
         self.left = left;
-    }
-}
-
-/// Whether it is a Reject, a ResendRequest or a Logout for this link.
-fn is_noted(link: u64, out: &LinkOut) -> bool {
-    match out {
-        LinkOut::Write { link: to, bytes } => *to == link && is_noted_frame(bytes.as_slice()),
-        LinkOut::Close { .. } => false,
     }
 }
 

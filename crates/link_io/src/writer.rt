@@ -1,14 +1,14 @@
 //! The writer of a link: takes lists of output and writes what they have for the link.
 
-ghost use Rattle.std.specs.Prelude.{◌≡◌, ◌≤◌, ◌+◌, ◌-◌, ◌++◌, ◌∷◌, ◌||◌, not, nat_lt, ℕ, List, [], None, Err, length};
-ghost use Rattle.std.specs.Prelude.{true, false, IfOk, IfErr, OnOk, OnErr, MatchResult, Some};
+ghost use Rattle.std.specs.Prelude.{◌≡◌, ◌≤◌, ◌<◌, ◌==◌, ◌+◌, ◌-◌, ◌++◌, ◌∷◌, ◌||◌, not, nat_lt, ℕ, List, [], None};
+ghost use Rattle.std.specs.Prelude.{Err, true, false, IfOk, IfErr, OnOk, OnErr, MatchResult, Some, length, drop, map};
 ghost use Rattle.std.specs.Io.{WritesAtMost};
 ghost use Rattle.std.specs.Io.KnownBytes.{WriteAppends};
 ghost use Rattle.gate_events.specs.Seen.{link_out_seen};
 ghost use Rattle.link_io.specs.Limits.{refusal, limit_after};
 ghost use Rattle.link_io.specs.Answered.{FailedWrite, TriesOnce};
-ghost use Rattle.link_io.specs.Writing.{bytes_of_output, unwritten, HasSent, Joins, TakesList, Refills, Sends};
-ghost use Rattle.link_io.specs.Writing.{Writes, WritesOnce};
+ghost use Rattle.link_io.specs.Writing.{bytes_of_output, link_bytes, next_bytes, unwritten, HasSent, Joins, TakesList};
+ghost use Rattle.link_io.specs.Writing.{IsAllOrEnough, Refills, Sends, SendsPart, Writes, WritesOnce};
 ghost use Rattle.link_io.specs.declared.link_fault.LinkFault.{LinkFault as Fault};
 
 use crate::gate::Gate;
@@ -24,7 +24,7 @@ use std::marker::Model;
 /// The most lists that are joined before they are written.
 const MOST_LISTS: u32 = 64;
 
-/// With this many bytes to be written no further list is taken.
+/// With this many bytes joined no further item is joined, and no further list is taken, before they are written.
 const ENOUGH_BYTES: usize = 16_384;
 
 /// So many bytes of memory are kept for what is written next, at most.
@@ -50,10 +50,10 @@ pub struct Wrote {
 pub struct BatchWriter {
     number: u16,
     link: u64,
-    /// A list that was taken, and how much of it is joined.
+    /// A list that was taken, and how many of its items are joined.
     held: ShortList<LinkOut>,
     joined: usize,
-    /// What is to be written, without the rest of that list.
+    /// What is joined and to be written, in front of the rest of that list: up to 16,384 bytes and an item.
     pending: Vec<u8>,
     is_taken: bool,
     is_closing: bool,
@@ -261,36 +261,139 @@ impl BatchWriter {
         ensures none_put { G.was_put gate.new ≡ G.was_put gate.old }
     {
         self.refill(alloc, gate)?;
-        write_out(stream, self.pending.as_slice(), gate)?;
-        self.sent.tell(gate, self.pending.as_slice(), 0);
-        Ok(self.wrote())
+        let bytes = self.size()?;
+        self.write_held(alloc, stream, gate)?;
+        Ok(self.wrote(bytes))
     }
 
-    /// What is reported of a step that wrote everything.
-    fn wrote(&mut self) -> Wrote
-        requires { self.old.held ≡ [] }
+    /// How many bytes there are to be written. `AllocError` where a `u64` can't say it: no memory has so many.
+    fn size(&self) -> Result<u64, AllocError>
+        ensures { IfOk result (λ size. size ≡ length (unwritten self.now)) }
+    {
+        size_behind(self.link, self.pending.len() as u64, self.rest())
+    }
+
+    /// The rest of the list that is held: its items that aren't joined.
+    fn rest(&self) -> &[LinkOut]
+        ensures { map link_out_seen result.now ≡ self.now.held }
+    {
+        let (_, rest) = self.held.as_slice().split_at(self.joined);
+        rest
+    }
+
+    /// Writes all there is: what is joined, and then, piece by piece, the rest of the list that is held.
+    fn write_held<W: Sink, G: Gate>(
+        &mut self,
+        alloc: Global,
+        stream: &mut W,
+        gate: &mut G,
+    ) -> Result<(), LinkFault>
+        ensures sends { Sends result (unwritten self.old) (W.contents stream.old) (W.contents stream.new) }
+        ensures all { OnOk result ((self.new.bytes ≡ []) × (self.new.held ≡ [])) }
+        ensures left { self.new ≡ record self.old { bytes = self.new.bytes; held = self.new.held } }
+        ensures failed { OnErr result (FailedWrite W.did_write stream.new) }
+        ensures none_put { G.was_put gate.new ≡ G.was_put gate.old }
+        ensures none_taken { G.was_taken gate.new ≡ G.was_taken gate.old }
+    {
+        self.write_joined(stream, gate)?;
+        while self.joined < self.held.len() {
+            self.write_piece(alloc, stream, gate)?;
+        }
+        Ok(())
+    }
+
+    /// Writes what is joined, and reports the frames that went out.
+    fn write_joined<W: Sink, G: Gate>(
+        &mut self,
+        stream: &mut W,
+        gate: &mut G,
+    ) -> Result<(), LinkFault>
+        ensures sends { Sends result self.old.bytes (W.contents stream.old) (W.contents stream.new) }
+        ensures all { OnOk result (self.new ≡ record self.old { bytes = [] }) }
+        ensures kept { OnErr result (self.new ≡ self.old) }
+        ensures failed { OnErr result (FailedWrite W.did_write stream.new) }
+        ensures none_put { G.was_put gate.new ≡ G.was_put gate.old }
+        ensures none_taken { G.was_taken gate.new ≡ G.was_taken gate.old }
+    {
+        write_out(stream, self.pending.as_slice(), gate)?;
+        self.sent.tell(gate, self.pending.as_slice(), 0);
+        empty(&mut self.pending);
+        Ok(())
+    }
+
+    /// Joins and writes a piece of the list that is held. Where memory for its first item is refused, that is written
+    /// from where it stands.
+    fn write_piece<W: Sink, G: Gate>(
+        &mut self,
+        alloc: Global,
+        stream: &mut W,
+        gate: &mut G,
+    ) -> Result<(), LinkFault>
+        requires written { self.old.bytes ≡ [] }
+        requires some { 0 < length self.old.held }
+        ensures sends { SendsPart result (unwritten self.old) (unwritten self.new)
+            (W.contents stream.old) (W.contents stream.new) }
+        ensures next { OnOk result ((self.new.bytes ≡ []) × (length self.new.held < length self.old.held)) }
+        ensures left { self.new ≡ record self.old { bytes = self.new.bytes; held = self.new.held } }
+        ensures failed { OnErr result (FailedWrite W.did_write stream.new) }
+        ensures none_put { G.was_put gate.new ≡ G.was_put gate.old }
+        ensures none_taken { G.was_taken gate.new ≡ G.was_taken gate.old }
+    {
+        if self.join_next(alloc).is_err() {
+            return self.write_next(stream, gate);
+        }
+        // What memory is refused for now is joined next.
+        let _ = self.join(alloc);
+        self.write_joined(stream, gate)
+    }
+
+    /// Writes the next item of the list that is held from where it stands. Takes no memory.
+    fn write_next<W: Sink, G: Gate>(
+        &mut self,
+        stream: &mut W,
+        gate: &mut G,
+    ) -> Result<(), LinkFault>
+        requires some { 0 < length self.old.held }
+        ensures sends { Sends result (next_bytes self.old.link self.old.held)
+            (W.contents stream.old) (W.contents stream.new) }
+        ensures next { OnOk result (self.new ≡ record self.old { held = drop 1 self.old.held }) }
+        ensures kept { OnErr result (self.new ≡ self.old) }
+        ensures failed { OnErr result (FailedWrite W.did_write stream.new) }
+        ensures none_put { G.was_put gate.new ≡ G.was_put gate.old }
+        ensures none_taken { G.was_taken gate.new ≡ G.was_taken gate.old }
+    {
+        let bytes = next_output(self.link, self.held.as_slice(), self.joined);
+        write_out(stream, bytes, gate)?;
+        self.sent.look(bytes);
+        self.sent.tell(gate, bytes, 0);
+        self.pass();
+        Ok(())
+    }
+
+    /// What is reported of a step that wrote so many bytes: everything.
+    fn wrote(&mut self, bytes: u64) -> Wrote
         ensures wrote { result ≡ record {
-          bytes = length self.old.bytes;
+          bytes = bytes;
           taken = self.old.is_taken;
           closed = self.old.is_closing;
         } }
-        ensures left { self.new ≡ record self.old { bytes = []; is_taken = false; is_closing = false } }
+        ensures left { self.new ≡ record self.old { is_taken = false; is_closing = false } }
     {
         let wrote = Wrote {
-            bytes: self.pending.len() as u64,
+            bytes,
             taken: self.is_taken,
             closed: self.is_closing,
         };
-        empty(&mut self.pending);
         self.is_taken = false;
         self.is_closing = false;
         wrote
     }
 
-    /// Takes lists, and joins what they have for this link. Whether more may be queued.
+    /// Takes lists, and joins what they have for this link until it is enough. Whether there may be more: in the list
+    /// that is held, or in the queue.
     fn refill<G: Gate>(&mut self, alloc: Global, gate: &mut G) -> Result<bool, AllocError>
         ensures refills { Refills self.old self.new (G.was_taken gate.old) (G.was_taken gate.new) }
-        ensures joined { OnOk result (self.new.held ≡ []) }
+        ensures all { IfOk result (λ more. more ≡ false → self.new.held ≡ []) }
         ensures none_put { G.was_put gate.new ≡ G.was_put gate.old }
     {
         self.join(alloc)?;
@@ -306,9 +409,11 @@ impl BatchWriter {
         Ok(true)
     }
 
-    /// Whether what there is is written before a further list is taken.
+    /// Whether what is joined is written before a further list is taken.
     fn has_enough(&self) -> bool
-        ensures { self.now.is_closing ≡ true → result ≡ true }
+        requires until { IsAllOrEnough self.now }
+        ensures closing { self.now.is_closing ≡ true → result ≡ true }
+        ensures all { result ≡ false → self.now.held ≡ [] }
     {
         self.is_closing || self.pending.len() >= ENOUGH_BYTES
     }
@@ -329,34 +434,53 @@ impl BatchWriter {
         true
     }
 
-    /// Joins the rest of the list that was taken, where there is some, and gives its memory back. If memory runs out
-    /// the rest is kept.
+    /// Joins the rest of the list that is held, where there is some, until there are enough bytes to be written. If
+    /// memory runs out the rest is kept.
     fn join(&mut self, alloc: Global) -> Result<(), AllocError>
         ensures joins { Joins self.old self.new }
-        ensures joined { OnOk result (self.new.held ≡ []) }
+        ensures fewer { length self.new.held ≤ length self.old.held }
+        ensures until { OnOk result (IsAllOrEnough self.new) }
     {
         if self.joined == self.held.len() {
             return Ok(());
         }
-        while self.join_next(alloc)? {}
-        self.held = ShortList::new();
-        self.joined = 0;
+        while self.pending.len() < ENOUGH_BYTES {
+            if !self.join_next(alloc)? {
+                return Ok(());
+            }
+        }
         Ok(())
     }
 
-    /// Joins the next item of that list, if there is one. One growth.
+    /// Joins the next item of that list. One growth. Whether there is a further one.
     fn join_next(&mut self, _alloc: Global) -> Result<bool, AllocError>
+        requires some { 0 < length self.old.held }
         ensures joins { Joins self.old self.new }
-        ensures none { IfOk result (λ more. more ≡ false → self.new.held ≡ []) }
-        ensures next { IfOk result (λ more. more ≡ true → length self.old.held ≡ length self.new.held + 1) }
+        ensures next { OnOk result (length self.old.held ≡ length self.new.held + 1) }
+        ensures more { IfOk result (λ more. more ≡ not (length self.new.held == 0)) }
+        ensures kept { OnErr result (self.new ≡ self.old) }
     {
-        if self.joined == self.held.len() {
-            return Ok(false);
-        }
-        append_output(&mut self.pending, self.link, &self.held[self.joined])?;
-        self.sent.look(self.link, &self.held[self.joined]);
+        let bytes = next_output(self.link, self.held.as_slice(), self.joined);
+        self.pending.extend_from_slice(bytes)?;
+        self.sent.look(bytes);
+        Ok(self.pass())
+    }
+
+    /// Goes on behind the next item of that list, and behind the last one gives the list's memory back. Whether there
+    /// is a further one.
+    fn pass(&mut self) -> bool
+        requires some { 0 < length self.old.held }
+        ensures next { self.new ≡ record self.old { held = drop 1 self.old.held } }
+        ensures more { result ≡ not (length self.new.held == 0) }
+    {
+        let count = self.held.len();
         self.joined += 1;
-        Ok(true)
+        if self.joined < count {
+            return true;
+        }
+        self.held = ShortList::new();
+        self.joined = 0;
+        false
     }
 }
 
@@ -371,23 +495,46 @@ fn empty(bytes: &mut Vec<u8>)
     }
 }
 
-/// Appends an item's bytes if it is for this link.
-fn append_output(bytes: &mut Vec<u8>, link: u64, out: &LinkOut) -> Result<(), AllocError>
-    ensures ok { OnOk result (bytes.new.items ≡ bytes.old.items ++ bytes_of_output link (link_out_seen out.now)) }
-    ensures err { OnErr result (bytes.new.items ≡ bytes.old.items) }
+/// What the next item says is to be written onto this link, where so many are joined.
+fn next_output(link: u64, held: &[LinkOut], joined: usize) -> &[u8]
+    requires { joined ≤ length held.now }
+    ensures { result.now ≡ next_bytes link (map link_out_seen (drop joined held.now)) }
+{
+    let (_, rest) = held.split_at(joined);
+    match rest.split_first() {
+        Some((out, _)) => output_bytes(link, out),
+        None => &[],
+    }
+}
+
+/// What an item says is to be written onto this link.
+fn output_bytes(link: u64, out: &LinkOut) -> &[u8]
+    ensures { result.now ≡ bytes_of_output link (link_out_seen out.now) }
 {
     match out {
-        LinkOut::Write {
-            link: to,
-            bytes: written,
-        } => {
+        LinkOut::Write { link: to, bytes } => {
             if *to == link {
-                return bytes.extend_from_slice(written.as_slice());
+                return bytes.as_slice();
             }
-            Ok(())
+            &[]
         }
-        LinkOut::Close { .. } => Ok(()),
+        LinkOut::Close { .. } => &[],
     }
+}
+
+/// So many bytes, and those that these items say are to be written onto this link. `AllocError` where a `u64` can't say
+/// how many.
+fn size_behind(link: u64, front: u64, outs: &[LinkOut]) -> Result<u64, AllocError>
+    ensures { IfOk result (λ size. size ≡ front + length (link_bytes link (map link_out_seen outs.now))) }
+{
+    let mut size = front;
+    let mut rest = outs;
+    while let Some((out, behind)) = rest.split_first() {
+        let count = output_bytes(link, out).len() as u64;
+        size = size.checked_add(count).ok_or(AllocError)?;
+        rest = behind;
+    }
+    Ok(size)
 }
 
 /// Writes all of these bytes. A write that takes none of some has failed.
