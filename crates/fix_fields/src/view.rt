@@ -66,6 +66,9 @@ impl<'a> FieldsView<'a> {
 }
 
 /// Whether a text is fields, all of it. Takes no memory.
+///
+/// It is a function of its own where it is called, so that its loop has the registers.
+#[inline(never)]
 fn are_fields(text: &[u8]) -> bool
     ensures { result ≡ is_some (fields_of text.now) }
 {
