@@ -13,7 +13,7 @@ use Rattle.wire_bytes.specs.Digits.{number_of}
 use Rattle.wire_bytes.proofs.Numbers.{own, all_digits_more, digit_range, number_of_more, number_of-take-le}
 use Rattle.fix_fields.specs.Field.{Field, is_field, is_inside, field_text}
 use Rattle.fix_fields.specs.declared.span.TagPlace.{TagPlace}
-use Rattle.fix_fields.specs.Front.{IsFront, HasField, AreDigits, IsTagAt, digits_from}
+use Rattle.fix_fields.specs.Front.{IsFront, HasField, AreDigits, IsTagAt, IsTagBegun, digits_from}
 use Rattle.fix_fields.proofs.Tags.{front, found, inside_false, tag_text, tag-number_of, list_all-prefix_len}
 
 -- no field is written from there on
@@ -235,6 +235,31 @@ known_tag_at text at end tag read is le most equals number =
       spelled = is.spelled ∙ ap decimal (sym same);
       equals = ap (λ n. get_or text n 0) place ∙ is.equals;
     }
+
+-- so far as it was read, a byte that isn't `=` is a digit more
+pub begun_ahead : (text : List ℕ) (at : ℕ) (begun : TagPlace) → HasField text at → IsTagBegun text at begun
+    → get_or text begun.end 0 ≢ 61 → begun.end < at + digits_from text at
+begun_ahead text at begun has is other =
+    not_equals text at begun.end has.field.tag (known_there text at has) is.most other
+
+pub begun_more : (text : List ℕ) (at : ℕ) (begun : TagPlace) → HasField text at → IsTagBegun text at begun
+    → get_or text begun.end 0 ≢ 61
+    → IsMoreKnown text at begun.end (begun.tag * 10 + (get_or text begun.end 0 - 48))
+begun_more text at begun has is other =
+    one_more_known text at begun.end has.field.tag begun.tag (begun.tag * 10 + (get_or text begun.end 0 - 48))
+    (known_there text at has) is.ordered (begun_ahead text at begun has is other) is.number refl
+
+-- and `=` ends it
+pub begun_whole : (text : List ℕ) (at : ℕ) (begun : TagPlace) → HasField text at → IsTagBegun text at begun
+    → get_or text begun.end 0 ≡ 61 → IsTagAt text at begun
+begun_whole text at begun has is equals =
+    known_tag_at text at begun.end has.field.tag begun.tag (known_there text at has) is.ordered is.most equals is.number
+
+-- its first byte is none
+pub some_digit : (text : List ℕ) (at : ℕ) → HasField text at → get_or text at 0 ≢ 61
+some_digit text at has equals =
+    let is = known_there text at has in
+    omega (arith, (digit_there text at at (omega arith) (omega (arith, is.some))).1, equals)
 
 -- ---- the value behind a tag
 
