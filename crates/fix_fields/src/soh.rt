@@ -1,6 +1,6 @@
 //! Where the next SOH stands in a text.
 
-ghost use Rattle.std.specs.Prelude.{◌≡◌, ◌≤◌, ◌<◌, ◌+◌, List, length, drop, take, IsTrue, MatchOption};
+ghost use Rattle.std.specs.Prelude.{◌≡◌, ◌≤◌, ◌<◌, ◌+◌, ◌-◌, List, length, drop, take, IsTrue, MatchOption};
 ghost use Rattle.fix_fields.specs.Field.{Field, fields_text};
 ghost use Rattle.fix_fields.specs.Front.{soh_behind, sohs, AreEnded};
 
@@ -23,14 +23,16 @@ pub(crate) fn is_ended(text: &[u8]) -> bool
 pub(crate) fn soh_count(text: &[u8]) -> usize
     ensures { result ≡ sohs text.now }
 {
+    if text.len() < LANES {
+        return soh_count_by_one(text);
+    }
     let mut count = 0usize;
     let mut at = 0usize;
     while LANES <= text.len() - at {
         count += soh_count_of_lanes(text, at);
         at += LANES;
     }
-    let (_, rest) = text.split_at(at);
-    count + soh_count_by_one(rest)
+    count + soh_count_of_last(text, text.len() - at)
 }
 
 /// The same, byte by byte.
@@ -55,6 +57,18 @@ fn soh_count_of_lanes(text: &[u8], at: usize) -> usize
         .simd_eq(u8x16::splat(SOH))
         .to_bitmask()
         .count_ones() as usize
+}
+
+/// How many SOHs stand among so many bytes at the end of a text that has sixteen.
+fn soh_count_of_last(text: &[u8], size: usize) -> usize
+    requires few { size ≤ 16 }
+    requires room { 16 ≤ length text.now }
+    ensures { result ≡ sohs (drop (length text.now - size) text.now) }
+{
+    let marks = u8x16::from_slice(&text[text.len() - LANES..])
+        .simd_eq(u8x16::splat(SOH))
+        .to_bitmask();
+    (marks >> (LANES - size)).count_ones() as usize
 }
 
 /// Where the first SOH stands from `start` on, where one stands there: sixteen bytes are looked at at once, as long as

@@ -1,4 +1,4 @@
-use Rattle.std.proofs.Common.{◌+◌, ℕ, List, ap, arith}
+use Rattle.std.proofs.Common.{◌≡◌, ◌+◌, ◌-◌, ℕ, ap, arith, length, drop}
 use Rattle.fix_fields.specs.Front.{sohs}
 use Rattle.fix_fields.proofs.Ending.{sohs_more, sohs_all, few_sohs}
 use Rattle.fix_fields.proofs.soh.soh_count.Goals as goal
@@ -27,5 +27,8 @@ loop-at-preserved c =
 
 pub returns : goal.returns
 returns c =
-    let rest = ap (λ (l : List ℕ). sohs l) c.split_at.ensures.back in
-    omega (arith, c.loop-at.invariant.counted, c.soh_count_by_one.ensures, rest, sohs_all c.args.text.now c.loop-at.at)
+    let text = c.args.text.now in
+    let behind : length text - (length text - c.loop-at.at) ≡ c.loop-at.at =
+    omega (arith, c.loop-at.invariant.within) in
+    let rest = ap (λ (n : ℕ). sohs (drop n text)) behind in
+    omega (arith, c.loop-at.invariant.counted, c.soh_count_of_last.ensures, rest, sohs_all text c.loop-at.at)
