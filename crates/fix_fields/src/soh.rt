@@ -77,7 +77,7 @@ pub(crate) fn next_soh(text: &[u8], start: usize) -> usize
     requires { soh_behind text.now start < length text.now }
     ensures { result ≡ soh_behind text.now start }
 {
-    if text.len() - start < LANES {
+    if start + LANES > text.len() {
         return next_soh_by_one(text, start);
     }
     match soh_among(text, start) {
@@ -92,7 +92,7 @@ fn next_soh_further(text: &[u8], start: usize) -> usize
     ensures { result ≡ soh_behind text.now start }
 {
     let mut end = start;
-    while LANES <= text.len() - end {
+    while end + LANES <= text.len() {
         if let Some(size) = soh_among(text, end) {
             return end + size;
         }
