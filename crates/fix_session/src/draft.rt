@@ -7,7 +7,8 @@ ghost use Rattle.session_law.specs.Session.{on_written};
 ghost use Rattle.session_law.specs.Runs.{on_heard};
 
 use crate::session::Session;
-use fix_fields::{Fields, printed_fields};
+use fix_fields::Fields;
+use fix_printing::printed_fields;
 use session_law::{Frame, Kind, Logged, Out, Phase};
 use session_writing::{KeptBodies, ask_body, echo_body, reject_body, text_body};
 use std::alloc::{AllocError, Global};

@@ -5,7 +5,8 @@ ghost use Rattle.fix_types.specs.BusinessReject.{business_reject_body_slots, bus
 ghost use Rattle.fix_types.specs.BusinessReject.{business_reject_refusal, IsBusinessReject};
 ghost use Rattle.fix_values.specs.Slots.{appended};
 
-use fix_fields::{Fields, PrintedFields, Text};
+use fix_fields::{Fields, Text};
+use fix_printing::PrintedFields;
 use fix_values::reading::{number_in, text_at};
 use fix_values::writing::{push_letter, push_number, push_text};
 use fix_values::{Format, Row, TextFault, first_refusal};

@@ -4,7 +4,8 @@ ghost use Rattle.std.specs.Prelude.{◌≡◌, None, IfOk, OnOk};
 ghost use Rattle.fix_types.specs.CancelReject.{cancel_reject_body, cancel_reject_in};
 ghost use Rattle.fix_types.specs.CancelReject.{cancel_reject_refusal, IsCancelReject};
 
-use fix_fields::{Fields, PrintedFields, Text};
+use fix_fields::{Fields, Text};
+use fix_printing::PrintedFields;
 use fix_values::reading::{id_at, number_in, ord_status_at, order_id_in, response_at, text_at};
 use fix_values::writing::{push_id, push_letter, push_number, push_order_id, push_text};
 use fix_values::{ClOrdId, CxlRejResponseTo, Format, OrdStatus, Row, TextFault, first_refusal};

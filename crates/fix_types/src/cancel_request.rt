@@ -5,7 +5,8 @@ ghost use Rattle.fix_types.specs.CancelRequest.{cancel_request_of, IsCancelReque
 ghost use Rattle.fix_types.specs.Requests as requests;
 
 use crate::requests::cancel_refusal;
-use fix_fields::{Fields, PrintedFields};
+use fix_fields::Fields;
+use fix_printing::PrintedFields;
 use fix_values::reading::id_at;
 use fix_values::writing::{push_id, push_letter};
 use fix_values::{ClOrdId, TextFault};

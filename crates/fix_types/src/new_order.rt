@@ -7,7 +7,8 @@ ghost use Rattle.fix_types.specs.NewOrder.{new_order_slots, IsNewOrder};
 use crate::new_order_reading::read_new_order;
 use crate::requests::new_order_refusal;
 use crate::terms::copied_terms;
-use fix_fields::{Fields, PrintedFields, Text};
+use fix_fields::{Fields, Text};
+use fix_printing::PrintedFields;
 use fix_values::writing::{
     push_char, push_float, push_id, push_letter, push_optional_char, push_optional_float,
     push_optional_text, push_text,

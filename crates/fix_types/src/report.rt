@@ -2,7 +2,8 @@
 
 use crate::report_fields::{push_amounts, push_head};
 use crate::report_reading::read_report;
-use fix_fields::{Fields, PrintedFields, Text};
+use fix_fields::{Fields, Text};
+use fix_printing::PrintedFields;
 use fix_values::writing::push_letter;
 use fix_values::{
     Character, ClOrdId, ExecType, FieldValue, Format, OrdStatus, Row, TextFault, first_refusal,

@@ -5,7 +5,7 @@ ghost use Rattle.fix_values.specs.Slots.{appended};
 ghost use Rattle.fix_types.specs.Report.{head_slots, amount_slots, KeepsHead, KeepsAmounts};
 
 use crate::report::Report;
-use fix_fields::PrintedFields;
+use fix_printing::PrintedFields;
 use fix_values::writing::{
     push_char, push_id, push_letter, push_number, push_optional_id, push_optional_number,
     push_optional_value, push_text, push_value,

@@ -12,7 +12,8 @@ use crate::character::Character;
 use crate::cl_ord_id::ClOrdId;
 use crate::field_value::{FieldValue, Said};
 use crate::float_text::FloatText;
-use fix_fields::{PrintedFields, Text};
+use fix_fields::Text;
+use fix_printing::PrintedFields;
 use fixed_point::{fraction_digits, significant_digits};
 use std::alloc::AllocError;
 

@@ -11,7 +11,7 @@ ghost use Rattle.journal_records.specs.Reading.{batch_said, nothing_said, fault_
 ghost use Rattle.journal_records.specs.Reading.{saying_client_out, saying_port_out, saying_report};
 ghost use Rattle.journal_records.specs.PartsSeen.{parts_seen};
 
-use fix_fields::PrintedFields;
+use fix_printing::PrintedFields;
 use gate_events::{Batch, ClientNumber, LinkOut, PortNumber, ShortList};
 use journal_pages::{RecordKind, RecordView};
 use session_law::IssuedReport;

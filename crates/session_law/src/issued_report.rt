@@ -4,7 +4,8 @@ ghost use Rattle.std.specs.Prelude.{◌≡◌, ◌≤◌, ◌↔◌, length, IfO
 ghost use Rattle.fix_framing.specs.fix_fields.Field.{AreFields, fields_text};
 ghost use Rattle.session_law.specs.Longest.{longest_report};
 
-use fix_fields::{Fields, PrintedFields};
+use fix_fields::Fields;
+use fix_printing::PrintedFields;
 use std::alloc::{AllocError, Global};
 use std::marker::Model;
 

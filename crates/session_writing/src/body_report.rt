@@ -14,7 +14,7 @@ use crate::names::Names;
 use crate::output::{printed_front, push_issue};
 use crate::resend::part_of;
 use crate::stamped::Stamped;
-use fix_fields::PrintedFields;
+use fix_printing::PrintedFields;
 use fix_types::AppBody;
 use session_law::{IssuedReport, Kind};
 use std::alloc::{AllocError, Global};

@@ -8,8 +8,8 @@ ghost use Rattle.session_reading.specs.session_law.declared.frame.Frame.{Frame};
 ghost use Rattle.session_reading.specs.session_law.declared.frame.Out.TheVariants.{Write};
 ghost use Rattle.session_writing.specs.Written.{told_frame};
 
-use fix_fields::PrintedFields;
 use fix_framing::frame_of_text;
+use fix_printing::PrintedFields;
 use session_law::{IssuedReport, Phase};
 use std::alloc::{AllocError, Global};
 

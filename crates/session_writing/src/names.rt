@@ -4,7 +4,8 @@ ghost use Rattle.std.specs.Prelude.{◌≡◌, ◌++◌, OnOk, IfOk};
 ghost use Rattle.fix_framing.specs.fix_fields.Field.{IsValue};
 ghost use Rattle.session_writing.specs.Heads.{name_fields};
 
-use fix_fields::{PrintedFields, Text};
+use fix_fields::Text;
+use fix_printing::PrintedFields;
 use std::alloc::{AllocError, Global};
 use std::marker::Model;
 

@@ -16,8 +16,8 @@ ghost use Rattle.session_writing.specs.Written.{told_bytes};
 use crate::head::FrameHead;
 use crate::names::Names;
 use crate::stamped::Stamped;
-use fix_fields::{PrintedFields, printed_fields};
 use fix_framing::frame_of_text;
+use fix_printing::{PrintedFields, printed_fields};
 use session_law::{Frame, Kind, Out};
 use std::alloc::{AllocError, Global};
 

@@ -18,8 +18,8 @@ use crate::output::{SessionOut, frame_of_body};
 use crate::place::KeptPlace;
 use crate::resent_text::ResentText;
 use crate::stamped::Stamped;
-use fix_fields::PrintedFields;
 use fix_framing::frame_of_text;
+use fix_printing::PrintedFields;
 use session_law::Kind;
 use std::alloc::{AllocError, Global};
 

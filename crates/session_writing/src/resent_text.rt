@@ -13,7 +13,7 @@ ghost use Rattle.session_writing.specs.Resent.{HeadsFit, moment_fields, start_fi
 use crate::names::Names;
 use crate::output::{is_issued, kind_letter};
 use crate::stamped::Stamped;
-use fix_fields::PrintedFields;
+use fix_printing::PrintedFields;
 use session_law::Kind;
 use std::alloc::{AllocError, Global};
 

@@ -2,7 +2,7 @@
 
 use super::field_lists::fields_of;
 use case_lines::shown;
-use fix_fields::PrintedFields;
+use fix_printing::PrintedFields;
 use fix_types::{
     CancelReject, CancelRequest, Fields, NewOrder, ReplaceRequest, Report, TextFault, TextWire,
 };

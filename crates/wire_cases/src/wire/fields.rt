@@ -1,7 +1,8 @@
 //! Fields, numbers, moments, and which bytes a text may have.
 
 use case_lines::shown;
-use fix_fields::{PrintedFields, split};
+use fix_fields::split;
+use fix_printing::PrintedFields;
 use fix_stamp::stamp;
 use std::alloc::{AllocError, Global};
 use wire_law::{are_printable, are_visible, is_printable, is_visible};
