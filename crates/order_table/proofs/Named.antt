@@ -26,13 +26,14 @@ use Rattle.undo_orders.specs.orders.declared.change.Change.{Change}
 use Rattle.undo_orders.specs.orders.declared.change.Change.TheVariants as changes
 use Rattle.order_table.specs.declared.keys.NameKey.{NameKey}
 use Rattle.order_table.specs.declared.keys.NumberKey.{NumberKey}
-use Rattle.order_table.specs.declared.token_key.TokenKey.{TokenKey}
+use Rattle.tokens.specs.declared.token_key.TokenKey.{TokenKey}
 use Rattle.order_table.specs.Keys.{has_name_key, has_number_key, has_token_key, is_key_of_cancel, is_key_of_replace}
 use Rattle.order_table.specs.Keys.{is_key_of_replaces, is_key_of_replacing, is_of_replacing}
 use Rattle.order_table.specs.Keys.{name_key, same_name, same_number}
-use Rattle.order_table.specs.KeyLaws.{same-name-is, same-token-is}
+use Rattle.order_table.specs.KeyLaws.{same-name-is}
+use Rattle.tokens.specs.TokenKeyLaws.{same-token-is}
 use Rattle.order_table.specs.Names.{KeepsNames, KeepsNamesBut}
-use Rattle.order_table.specs.TokenKeys.{same_token_key, token_key}
+use Rattle.tokens.specs.TokenKeys.{same_token_key, token_key}
 use Rattle.order_table.proofs.Counted.{change-new}
 
 -- ---- tests

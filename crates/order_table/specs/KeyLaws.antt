@@ -1,18 +1,16 @@
--- Equal keys are the same, and are had and hashed alike.
-use Rattle.std.proofs.Common.{◌≡◌, true, [], ◌∷◌, ◌++◌, ap, eqb-true}
-use Rattle.std.specs.Prelude.{nat_eq, bytes_eq}
-use Rattle.std.specs.Cmp.Lexicographic.{bytes_decides}
-use Rattle.std.specs.Hash as fed
+-- Equal keys are the same, and are had alike.
+use Rattle.std.proofs.Common.{◌≡◌, true, ap, eqb-true}
+use Rattle.std.specs.Prelude.{nat_eq}
 use Rattle.std.specs.Str.Parse.{digits_value}
-use Rattle.std.proofs.lemmas.Bool.{and_parts}
 use Rattle.undo_index.specs.KeyLaws.{same-is}
 use Rattle.order_machine.specs.OrderRecord.{OrderRecord}
 use Rattle.order_machine.specs.Table.{GivenToken}
 use Rattle.order_table.specs.declared.keys.NameKey.{NameKey}
 use Rattle.order_table.specs.declared.keys.NumberKey.{NumberKey}
-use Rattle.order_table.specs.declared.token_key.TokenKey.{TokenKey}
+use Rattle.tokens.specs.declared.token_key.TokenKey.{TokenKey}
 use Rattle.order_table.specs.Keys.{has_name_key, has_number_key, has_token_key, same_name, same_number}
-use Rattle.order_table.specs.TokenKeys.{same_token_key}
+use Rattle.tokens.specs.TokenKeyLaws.{same-token-is}
+use Rattle.tokens.specs.TokenKeys.{same_token_key}
 
 pub number-alike :
     (x y : NumberKey) (o : OrderRecord) → same_number x y ≡ true → has_number_key x o ≡ has_number_key y o
@@ -24,14 +22,5 @@ same-name-is x y e = (λ j. record { key = same-is x.key y.key e j })
 pub name-alike : (x y : NameKey) (o : OrderRecord) → same_name x y ≡ true → has_name_key x o ≡ has_name_key y o
 name-alike x y o e = ap (λ (k : NameKey). has_name_key k o) (same-name-is x y e)
 
-pub same-token-is : (x y : TokenKey) → same_token_key x y ≡ true → x ≡ y
-same-token-is x y e =
-    let parts = and_parts (nat_eq x.port y.port) (bytes_eq x.text y.text) e in
-    (λ j. record { port = eqb-true x.port y.port parts.0 j; text = (bytes_decides x.text y.text).0 parts.1 j })
-
 pub token-alike : (x y : TokenKey) (g : GivenToken) → same_token_key x y ≡ true → has_token_key x g ≡ has_token_key y g
 token-alike x y g e = ap (λ (k : TokenKey). has_token_key k g) (same-token-is x y e)
-
-pub token-hash-alike : (x y : TokenKey) → same_token_key x y ≡ true
-    → (fed.u16 x.port ++ x.text ∷ []) ≡ (fed.u16 y.port ++ y.text ∷ [])
-token-hash-alike x y e = ap (λ (k : TokenKey). fed.u16 k.port ++ k.text ∷ []) (same-token-is x y e)

@@ -11,8 +11,8 @@ use Rattle.order_machine.specs.OrderRecord.{Cancelling, OrderRecord}
 use Rattle.order_machine.specs.Table.{GivenToken}
 use Rattle.order_table.specs.declared.keys.NameKey.{NameKey}
 use Rattle.order_table.specs.declared.keys.NumberKey.{NumberKey}
-use Rattle.order_table.specs.declared.token_key.TokenKey.{TokenKey}
-use Rattle.order_table.specs.TokenKeys.{same_token_key, token_key}
+use Rattle.tokens.specs.declared.token_key.TokenKey.{TokenKey}
+use Rattle.tokens.specs.TokenKeys.{same_token_key, token_key}
 
 abbrev pub same_number : NumberKey → NumberKey → Bool
 same_number x y = nat_eq x.number y.number

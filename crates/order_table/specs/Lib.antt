@@ -5,7 +5,6 @@ pub mod Names
 pub mod Replaces
 pub mod Rooms
 pub mod Sums
-pub mod TokenKeys
 pub use Rattle.undo_orders.specs.orders.order_law.Chain
 pub use Rattle.undo_orders.specs.orders.order_law.Life
 pub use Rattle.order_machine.specs.OrderRecord

@@ -11,8 +11,8 @@ ghost use Rattle.order_table.specs.Keys as keys;
 ghost use Rattle.order_table.specs.KeyLaws.{name-alike, number-alike, token-alike};
 
 use crate::table::GivenToken;
-use crate::token_key::TokenKey;
 use orders::{Boxed, Cancelling, Order, Replacing};
+use tokens::TokenKey;
 use undo_index::{Keyed, Sought, TextKey};
 use wire_bytes::is_same_token;
 

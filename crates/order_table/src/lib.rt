@@ -8,7 +8,6 @@ mod keys;
 mod order_list;
 mod sums;
 mod table;
-mod token_key;
 mod token_list;
 
 pub use table::{GivenToken, Table};

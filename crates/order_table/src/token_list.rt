@@ -9,9 +9,9 @@ ghost use Rattle.order_machine.specs.Table as table;
 
 use crate::keys::ByToken;
 use crate::table::GivenToken;
-use crate::token_key::TokenKey;
 use std::alloc::{AllocError, Global};
 use std::marker::Model;
+use tokens::TokenKey;
 use undo_index::{HintIndex, NumberCounts, UndoList};
 
 /// The tokens that were given, the oldest first, each found by its port and its text; how many of them replaces of
@@ -41,7 +41,7 @@ impl Model for TokenList {
     ghost use Rattle.order_table.specs.Keys.{has_token_key};
     ghost use Rattle.order_table.specs.Replaces.{AreReplaces};
     ghost use Rattle.order_table.specs.Rooms.{room_of_token};
-    ghost use Rattle.order_table.specs.TokenKeys.{same_token_key};
+    ghost use Rattle.tokens.specs.TokenKeys.{same_token_key};
     ghost use Rattle.undo_index.specs.Undoing.{Undoable};
 
     ghost Value = { Undoable table.GivenToken };

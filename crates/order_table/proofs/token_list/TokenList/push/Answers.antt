@@ -3,9 +3,9 @@ use Rattle.undo_index.proofs.Standing.{covered-pushed}
 use Rattle.undo_index.specs.Hints.{LeadsTo, hint_of}
 use Rattle.order_machine.specs.Table.{GivenToken}
 use Rattle.undo_index.specs.Undoing.{Undoable}
-use Rattle.order_table.specs.declared.token_key.TokenKey.{TokenKey}
+use Rattle.tokens.specs.declared.token_key.TokenKey.{TokenKey}
 use Rattle.order_table.specs.Keys.{has_token_key}
-use Rattle.order_table.specs.TokenKeys.{same_token_key, token_key}
+use Rattle.tokens.specs.TokenKeys.{same_token_key, token_key}
 use Rattle.order_table.proofs.Named.{token-leads}
 use Rattle.order_table.proofs.Replaces.{replaces-fit, replaces-pushed, replaces-same}
 use Rattle.order_table.proofs.Rooms.{room-in-token}

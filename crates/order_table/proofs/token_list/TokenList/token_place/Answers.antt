@@ -6,9 +6,9 @@ use Rattle.undo_index.specs.Undoing.{Undoable}
 use Rattle.undo_index.proofs.Standing.{led-by}
 use Rattle.undo_index.specs.Hints.{LedBy, hint_of}
 use Rattle.order_machine.specs.Table.{GivenToken, is_token}
-use Rattle.order_table.specs.declared.token_key.TokenKey.{TokenKey}
+use Rattle.tokens.specs.declared.token_key.TokenKey.{TokenKey}
 use Rattle.order_table.specs.Keys.{has_token_key}
-use Rattle.order_table.specs.TokenKeys.{same_token_key, token_key}
+use Rattle.tokens.specs.TokenKeys.{same_token_key, token_key}
 use Rattle.order_table.proofs.Named.{token-key}
 use Rattle.order_table.proofs.token_list.TokenList.token_place.Goals as goal
 

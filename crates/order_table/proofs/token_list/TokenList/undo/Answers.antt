@@ -1,6 +1,6 @@
 use Rattle.undo_index.proofs.Standing.{covered-undone}
 use Rattle.order_table.specs.Keys.{has_token_key}
-use Rattle.order_table.specs.TokenKeys.{same_token_key}
+use Rattle.tokens.specs.TokenKeys.{same_token_key}
 use Rattle.order_table.proofs.Replaces.{replaces-same}
 use Rattle.order_table.proofs.token_list.TokenList.undo.Goals as goal
 

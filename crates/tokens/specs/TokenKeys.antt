@@ -1,7 +1,7 @@
 -- The key of a port with the text of a token.
 use Rattle.std.specs.Prelude.{ℕ, Bool, ◌&&◌, List, nat_eq}
 use Rattle.std.specs.Cmp.Lexicographic.{pointwise}
-use Rattle.order_table.specs.declared.token_key.TokenKey.{TokenKey}
+use Rattle.tokens.specs.declared.token_key.TokenKey.{TokenKey}
 
 abbrev pub token_key : ℕ → List ℕ → TokenKey
 token_key port token = record { port = port; text = token }

@@ -4,8 +4,8 @@ ghost use Rattle.std.specs.Prelude.{◌≡◌, ◌++◌, ◌∷◌, []};
 ghost use Rattle.std.specs.Hash as fed;
 ghost use Rattle.std.specs.Cmp.Rules.{comparing};
 ghost use Rattle.std.proofs.Common.{rules};
-ghost use Rattle.order_table.specs.TokenKeys.{same_token_key, token_key};
-ghost use Rattle.order_table.specs.KeyLaws.{token-hash-alike};
+ghost use Rattle.tokens.specs.TokenKeys.{same_token_key, token_key};
+ghost use Rattle.tokens.specs.TokenKeyLaws.{token-hash-alike};
 
 use std::hash::{Hash, Hasher};
 use wire_bytes::is_same_token;
