@@ -9,7 +9,8 @@ use control_guard::{
 use gateway_watch::Shown;
 use http::{HeaderMap, HeaderName, HeaderValue, Request, StatusCode, header};
 use http_server::{Response, Service};
-use status_page::{DayNames, json_of, metrics_of, page_of};
+use status_metrics::metrics_of;
+use status_page::{DayNames, json_of, page_of};
 use std::alloc::{AllocError, Global};
 use std::sync::Wait;
 use std::time::Clock;

@@ -3,10 +3,7 @@ use Rattle.std.specs.Prelude.{◌≡◌, refl, ℕ, true, false, List, [], ◌�
 use Rattle.std.specs.Fmt.{digits}
 use Rattle.fixed_point.specs.Price.{price_text}
 use Rattle.gateway_watch.specs.Rows.{ClientRow, PortRow, Down, LoggingIn, Up}
-use Rattle.status_page.specs.declared.client_metric.ClientMetric.TheVariants as client
-use Rattle.status_page.specs.declared.port_metric.PortMetric.TheVariants as port
 use Rattle.status_page.specs.Html.{escaped}
-use Rattle.status_page.specs.Metrics.{client_lines, port_lines}
 use Rattle.status_page.specs.Page.{alarm, alarms, client_numbers, client_row, client_rows, numbered, standing}
 
 -- ---- texts
@@ -74,30 +71,6 @@ rows_are_numbered : client_rows 1 names (bank ∷ fund ∷ [])
     ≡ client_row 1 (codes "BANK") bank ++ (client_row 2 (codes "R&D") fund ++ [])
 rows_are_numbered = refl
 
--- a line's value and its end
-abbrev value : ℕ → List ℕ
-value number = decimal number ++ 10 ∷ []
-
-open_orders_of_clients : client_lines client.OpenOrders names (bank ∷ fund ∷ [])
-    ≡ (codes "gateway_open_orders{client=\"BANK\"} " ++ value 3)
-    ++ ((codes "gateway_open_orders{client=\"R&D\"} " ++ value 0) ++ [])
-open_orders_of_clients = refl
-
-executed_shares_of_clients : client_lines client.ExecutedShares names (bank ∷ fund ∷ [])
-    ≡ (codes "gateway_executed_shares{client=\"BANK\"} " ++ value 12_600)
-    ++ ((codes "gateway_executed_shares{client=\"R&D\"} " ++ value 0) ++ [])
-executed_shares_of_clients = refl
-
-executed_value_of_clients : client_lines client.ExecutedValue names (bank ∷ fund ∷ [])
-    ≡ (codes "gateway_executed_value{client=\"BANK\"} " ++ value 295_470_500)
-    ++ ((codes "gateway_executed_value{client=\"R&D\"} " ++ value 0) ++ [])
-executed_value_of_clients = refl
-
--- a quote and a backslash in a name
-a_name_that_is_quoted : client_lines client.Up ((34 ∷ 92 ∷ []) ∷ []) (bank ∷ [])
-    ≡ (codes "gateway_client_up{client=\"\\\"\\\\\"} " ++ value 1) ++ []
-a_name_that_is_quoted = refl
-
 abbrev first_port : PortRow
 first_port = record { link = Some 2; state = LoggingIn; next = 1 }
 
@@ -109,13 +82,6 @@ third_port = record { link = None; state = Down; next = 5 }
 
 abbrev addresses : List (List ℕ)
 addresses = codes "10.1.1.5:1" ∷ codes "10.1.1.6:2" ∷ codes "10.1.1.7:3" ∷ []
-
--- a port that logs in isn't up
-one_port_of_three_is_up : port_lines port.Up addresses (first_port ∷ second_port ∷ third_port ∷ [])
-    ≡ (codes "gateway_port_up{port=\"10.1.1.5:1\"} " ++ value 0)
-    ++ ((codes "gateway_port_up{port=\"10.1.1.6:2\"} " ++ value 1)
-    ++ ((codes "gateway_port_up{port=\"10.1.1.7:3\"} " ++ value 0) ++ []))
-one_port_of_three_is_up = refl
 
 two_ports_of_three_are_alarms : alarms 1 addresses (first_port ∷ second_port ∷ third_port ∷ [])
     ≡ (codes "<div class=\"alarm\"><b>P" ++ decimal 1 ++ codes "</b> at 10.1.1.5:1" ++ codes " is <b>logging in</b>"

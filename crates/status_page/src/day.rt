@@ -43,7 +43,7 @@ pub(crate) fn is_late(names: &DayNames, shown: &Option<Shown>, now: u64) -> bool
 }
 
 /// The first name; empty where there are no more.
-pub(crate) fn first_name(names: &[Vec<u8>]) -> &[u8]
+pub fn first_name(names: &[Vec<u8>]) -> &[u8]
     ensures { result.now ≡ page.first_name (map (λ v. v.items) names.now) }
 {
     match names {
@@ -53,7 +53,7 @@ pub(crate) fn first_name(names: &[Vec<u8>]) -> &[u8]
 }
 
 /// The names behind the first.
-pub(crate) fn other_names(names: &[Vec<u8>]) -> &[Vec<u8>]
+pub fn other_names(names: &[Vec<u8>]) -> &[Vec<u8>]
     ensures { map (λ v. v.items) result.now ≡ drop 1 (map (λ v. v.items) names.now) }
 {
     match names {

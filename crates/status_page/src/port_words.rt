@@ -1,7 +1,6 @@
 //! A port's state, in words.
 
 ghost use Rattle.std.specs.Prelude.{◌≡◌};
-ghost use Rattle.status_page.specs.Numbers as numbers;
 ghost use Rattle.status_page.specs.Words as spec;
 
 use gateway_watch::fault_name;
@@ -28,11 +27,4 @@ pub(crate) fn reason_of(state: PortState) -> &'static str
         PortState::Faulted(fault) => fault_name(fault),
         PortState::Down | PortState::LoggingIn | PortState::Up | PortState::Ended => "",
     }
-}
-
-/// Whether it is faulted.
-pub(crate) fn is_faulted(state: PortState) -> bool
-    ensures { result ≡ numbers.is_faulted state }
-{
-    matches!(state, PortState::Faulted(_))
 }

@@ -1,11 +1,11 @@
 //! The numbers of ports.
 
 ghost use Rattle.std.specs.Prelude.{◌≡◌};
-ghost use Rattle.status_page.specs.Numbers as spec;
+ghost use Rattle.status_metrics.specs.Numbers as spec;
 
 use crate::client_metric::one_where;
-use crate::port_words::is_faulted;
 use gate_core::PortRow;
+use soup_session::PortState;
 
 /// A number of each port.
 #[derive(Clone, Copy)]
@@ -48,4 +48,11 @@ impl PortMetric {
             PortMetric::Next => row.next,
         }
     }
+}
+
+/// Whether a port is faulted.
+fn is_faulted(state: PortState) -> bool
+    ensures { result ≡ spec.is_faulted state }
+{
+    matches!(state, PortState::Faulted(_))
 }

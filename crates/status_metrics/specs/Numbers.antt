@@ -1,10 +1,10 @@
 -- The numbers of clients and ports that metrics have.
 use Rattle.std.specs.Prelude.{ℕ, Bool, true, false, List, codes, if◌then◌else◌}
 use Rattle.gateway_watch.specs.Rows.{ClientRow, PortRow, PortState, Faulted, is_up}
-use Rattle.status_page.specs.declared.client_metric.ClientMetric.{ClientMetric}
-use Rattle.status_page.specs.declared.client_metric.ClientMetric.TheVariants as client
-use Rattle.status_page.specs.declared.port_metric.PortMetric.{PortMetric}
-use Rattle.status_page.specs.declared.port_metric.PortMetric.TheVariants as port
+use Rattle.status_metrics.specs.declared.client_metric.ClientMetric.{ClientMetric}
+use Rattle.status_metrics.specs.declared.client_metric.ClientMetric.TheVariants as client
+use Rattle.status_metrics.specs.declared.port_metric.PortMetric.{PortMetric}
+use Rattle.status_metrics.specs.declared.port_metric.PortMetric.TheVariants as port
 
 abbrev pub one_where : Bool → ℕ
 one_where is_so = if is_so then 1 else 0

@@ -1,14 +1,14 @@
 //! The metrics, in the text format of Prometheus.
 
 ghost use Rattle.std.specs.Prelude.{◌≡◌, ◌++◌, IfOk, OnOk, map};
-ghost use Rattle.status_page.specs.Metrics as spec;
+ghost use Rattle.status_metrics.specs.Metrics as spec;
 
 use crate::client_metric::ClientMetric;
-use crate::day::{DayNames, first_name, other_names};
 use crate::port_metric::PortMetric;
 use gate_core::{ClientRow, PortRow};
 use gateway_watch::Shown;
 use itoa::Buffer;
+use status_page::{DayNames, first_name, other_names};
 use std::alloc::{AllocError, Global};
 
 /// The metrics of a day: each with a line for each client or port. Before anything is shown there is the start alone.

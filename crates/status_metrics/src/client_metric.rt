@@ -1,7 +1,7 @@
 //! The numbers of clients.
 
 ghost use Rattle.std.specs.Prelude.{◌≡◌};
-ghost use Rattle.status_page.specs.Numbers as spec;
+ghost use Rattle.status_metrics.specs.Numbers as spec;
 
 use gate_core::ClientRow;
 

@@ -7,13 +7,13 @@ use Rattle.std.specs.List.{flat_map}
 use Rattle.gateway_watch.specs.Rows.{ClientRow, PortRow}
 use Rattle.gateway_watch.specs.declared.board.Shown.{Shown}
 use Rattle.status_page.specs.declared.day.DayNames.{DayNames}
-use Rattle.status_page.specs.declared.client_metric.ClientMetric.{ClientMetric}
-use Rattle.status_page.specs.declared.client_metric.ClientMetric.TheVariants as client
-use Rattle.status_page.specs.declared.port_metric.PortMetric.{PortMetric}
-use Rattle.status_page.specs.declared.port_metric.PortMetric.TheVariants as port
+use Rattle.status_metrics.specs.declared.client_metric.ClientMetric.{ClientMetric}
+use Rattle.status_metrics.specs.declared.client_metric.ClientMetric.TheVariants as client
+use Rattle.status_metrics.specs.declared.port_metric.PortMetric.{PortMetric}
+use Rattle.status_metrics.specs.declared.port_metric.PortMetric.TheVariants as port
 use Rattle.status_page.specs.Page.{first_name}
-use Rattle.status_page.specs.Numbers.{client_metric_help, client_metric_name, client_number}
-use Rattle.status_page.specs.Numbers.{port_metric_help, port_metric_name, port_number}
+use Rattle.status_metrics.specs.Numbers.{client_metric_help, client_metric_name, client_number}
+use Rattle.status_metrics.specs.Numbers.{port_metric_help, port_metric_name, port_number}
 
 -- ---- lines
 

@@ -1,6 +1,6 @@
 use Rattle.std.proofs.Common.{◌≡◌, ◌++◌, take}
-use Rattle.status_page.specs.Metrics.{quoted}
-use Rattle.status_page.proofs.metrics.push_quoted.Given as goal
+use Rattle.status_metrics.specs.Metrics.{quoted}
+use Rattle.status_metrics.proofs.metrics.push_quoted.Given as goal
 
 -- that of the bytes so far
 abbrev pub invariant-loop-byte : goal.invariant-loop-byte

@@ -1,0 +1,3 @@
+mod Examples
+pub mod Metrics
+pub mod Numbers
