@@ -1,11 +1,11 @@
 -- Equal keys are the same, and are hashed alike.
 use Rattle.std.proofs.Common.{◌≡◌, true, ◌&&◌, [], ◌∷◌, ◌++◌, ap, eqb-true}
-use Rattle.std.specs.Prelude.{nat_eq, bytes_eq, min, take}
+use Rattle.std.specs.Prelude.{nat_eq, bytes_eq, take}
 use Rattle.std.specs.Cmp.Lexicographic.{bytes_decides}
 use Rattle.std.specs.Hash as fed
 use Rattle.std.proofs.lemmas.Bool.{and_parts}
 use Rattle.undo_index.specs.declared.text_key.TextKey.{TextKey}
-use Rattle.undo_index.specs.TextKeys.{same_key}
+use Rattle.undo_index.specs.TextKeys.{same_key, whole_words}
 
 pub same-is : (x y : TextKey) → same_key x y ≡ true → x ≡ y
 same-is x y e =
@@ -17,6 +17,6 @@ same-is x y e =
       bytes = (bytes_decides x.bytes y.bytes).0 rest.1 j;
     })
 
-pub hash-alike : (x y : TextKey) → same_key x y ≡ true → (fed.u16 x.number ++ take (min x.len 64) x.bytes ∷ [])
-    ≡ (fed.u16 y.number ++ take (min y.len 64) y.bytes ∷ [])
-hash-alike x y e = ap (λ (k : TextKey). fed.u16 k.number ++ take (min k.len 64) k.bytes ∷ []) (same-is x y e)
+pub hash-alike : (x y : TextKey) → same_key x y ≡ true → (fed.u64 x.number ++ take (whole_words x.len) x.bytes ∷ [])
+    ≡ (fed.u64 y.number ++ take (whole_words y.len) y.bytes ∷ [])
+hash-alike x y e = ap (λ (k : TextKey). fed.u64 k.number ++ take (whole_words k.len) k.bytes ∷ []) (same-is x y e)

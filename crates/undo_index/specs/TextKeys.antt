@@ -1,5 +1,5 @@
 -- The key of a number with a text: the text's first 64 bytes, how many they are, and zeros behind them.
-use Rattle.std.specs.Prelude.{ℕ, ◌-◌, Bool, ◌&&◌, List, ◌++◌, length, take, replicate, nat_eq}
+use Rattle.std.specs.Prelude.{ℕ, ◌+◌, ◌-◌, ◌*◌, ◌/◌, Bool, ◌&&◌, List, ◌++◌, length, min, take, replicate, nat_eq}
 use Rattle.std.specs.Cmp.Lexicographic.{pointwise}
 use Rattle.undo_index.specs.declared.text_key.TextKey.{TextKey}
 
@@ -13,3 +13,7 @@ text_key number text = record {
 -- keys are equal
 abbrev pub same_key : TextKey → TextKey → Bool
 same_key x y = nat_eq x.number y.number && (nat_eq x.len y.len && pointwise nat_eq x.bytes y.bytes)
+
+-- in how many bytes so many lie in whole words of eight bytes, 64 at most
+abbrev pub whole_words : ℕ → ℕ
+whole_words len = (min len 57 + 7) / 8 * 8

@@ -1,8 +1,8 @@
 //! A number with a text, as one key.
 
-ghost use Rattle.std.specs.Prelude.{◌≡◌, ◌≤◌, ◌+◌, ◌-◌, ◌++◌, ◌∷◌, [], length, min, take, drop, replicate};
+ghost use Rattle.std.specs.Prelude.{◌≡◌, ◌≤◌, ◌+◌, ◌-◌, ◌++◌, ◌∷◌, [], length, take, drop, replicate};
 ghost use Rattle.std.specs.Hash as fed;
-ghost use Rattle.undo_index.specs.TextKeys.{text_key};
+ghost use Rattle.undo_index.specs.TextKeys.{text_key, whole_words};
 ghost use Rattle.undo_index.specs.KeyLaws.{hash-alike};
 
 use std::hash::{Hash, Hasher};
@@ -10,7 +10,7 @@ use std::hash::{Hash, Hasher};
 /// The key of a number with a text of up to 64 bytes: an array with its length, so that it takes no memory.
 ///
 /// Of a longer text the first 64 bytes count. Equal numbers and texts have equal keys. Hashed are the number and the
-/// text, and not the zeros behind it.
+/// text, both in whole words of eight bytes, since a hasher takes a byte that is alone as dearly as a word.
 #[derive(Clone, Copy, PartialEq, Eq)]
 pub struct TextKey {
     number: u16,
@@ -51,13 +51,21 @@ fn padded(text: &[u8]) -> [u8; 64]
 }
 
 impl Hash for TextKey {
-    ghost hash_input = { λ k. fed.u16 k.number ++ take (min k.len 64) k.bytes ∷ [] };
+    ghost hash_input = { λ k. fed.u64 k.number ++ take (whole_words k.len) k.bytes ∷ [] };
 
     ghost respects_eq = { hash-alike };
 
     // The text in one write.
     fn hash<H: Hasher>(&self, state: &mut H) {
-        self.number.hash(state);
-        state.write(&self.bytes[..usize::from(self.len).min(64)]);
+        u64::from(self.number).hash(state);
+        state.write(&self.bytes[..whole_words(self.len)]);
     }
+}
+
+/// In how many bytes so many lie in whole words, 64 at most.
+fn whole_words(len: u8) -> usize
+    ensures size { result ≡ whole_words len }
+    ensures inside { result ≤ 64 }
+{
+    (usize::from(len).min(57) + 7) / 8 * 8
 }
