@@ -3,7 +3,7 @@
 use crate::finished::{Finished, FinishedEnd};
 use crate::name::DeskName;
 use gate_events::{Event, Source};
-use rtrb::{Producer, PushError};
+use rtrb::Producer;
 use std::marker::{Model, PhantomData};
 
 /// The producer's end of a queue of events, all of one source. Contracts see its position, its source, what was put,
@@ -93,10 +93,12 @@ impl<K: DeskName> Inlet<K> {
         ensures full { IfErr result (λ e. (e ≡ event) × (self.new.put ≡ self.old.put) × (self.new.free ≡ 0)) }
         ensures succeeds { 0 < self.old.free → IsOk result }
     {
-        match self.producer.push(event) {
-            Ok(()) => Ok(()),
-            Err(PushError::Full(event)) => Err(event),
+        // Not by `push`: an event is large, and is moved once where no answer may have it.
+        if self.producer.is_full() {
+            return Err(event);
         }
+        self.producer.push_reserved(event);
+        Ok(())
     }
 
     /// Ends the inlet, and says what was put. `None` if the desk is gone.

@@ -86,7 +86,10 @@ impl<K: DeskName> Outlet<K> {
         ensures none { IfNone result ((self.new.took ≡ self.old.took) × (self.new.ahead ≡ [])) }
         ensures succeeds { 0 < length self.old.ahead → IsSome result }
     {
-        self.consumer.pop().ok()
+        if self.consumer.is_empty() {
+            return None;
+        }
+        Some(self.consumer.pop_known())
     }
 
     /// How many lists lie in the queue, after a look.

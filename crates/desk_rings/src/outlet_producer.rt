@@ -176,9 +176,12 @@ impl OutletProducer {
         }
         let more = self.more.saturating_add(more_places(&output));
         if !self.stages {
-            match self.producer.push(output) {
-                Ok(()) => self.more = more,
-                Err(_) => self.overflowed = true,
+            // Not by `push`: a list is moved once where no answer may have it.
+            if self.producer.is_full() {
+                self.overflowed = true;
+            } else {
+                self.producer.push_reserved(output);
+                self.more = more;
             }
             return;
         }
