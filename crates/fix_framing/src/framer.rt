@@ -245,6 +245,13 @@ impl Framer {
         self.is_over
     }
 
+    /// Whether it holds no byte, and reads on: then no frame is whole. Takes no memory.
+    pub fn is_idle(&self) -> bool
+        ensures { IsTrue result ↔ (self.now.end ≡ Rest []) }
+    {
+        !self.is_over && self.buffer.held().is_empty()
+    }
+
     /// How many bytes were written into the buffer, from a piece or when what is held is moved to its front;
     /// 2^64 - 1 stands for more. Takes no memory.
     pub fn copied(&self) -> u64

@@ -13,7 +13,7 @@ use Rattle.fix_framing.specs.Front.{GivesFrame}
 use Rattle.fix_framing.specs.Frame.{trailer_size}
 use Rattle.fix_framing.specs.Stream.{Start, Head, LessThanHead, NoHead, Place, Frame, Skipped, Waiting, TooLong, place}
 use Rattle.fix_framing.specs.Stream.{place_of, place_of_head, framed_by, is_whole, parts, parts_behind, parts_of}
-use Rattle.fix_framing.specs.Stream.{StreamParts, End, Rest, Over, left, longest, Passed}
+use Rattle.fix_framing.specs.Stream.{StreamParts, End, Rest, Over, left, longest, only, Passed}
 use Rattle.fix_framing.specs.Stream.{ReaderStanding, start}
 use Rattle.link_io.specs.declared.link_fault.LinkFault.TheVariants.{Malformed}
 use Rattle.link_io.specs.Decoding.{BringFrames, FramesOfLink, MadeOfFrames, NextFrame}
@@ -158,4 +158,21 @@ makes_frame old f at r fields frame (passes, first, short) is same = (
       ),
   let fewer : length (left r.end).frames < length (left f.framer.end).frames = omega (arith, ap length first) in
       subst (λ (z : FramesOfLink). length (left r.end).frames < length (left z.framer.end).frames) (sym is) fewer,
+)
+
+-- no byte is held
+none_left : parts [] ≡ only (Rest [])
+unfolding parts_behind
+none_left = refl
+
+pub next_idle : (r : ReaderStanding) → r.end ≡ Rest [] → NextFrame (Ok None) r r
+next_idle r e taken passed h = (
+  h,
+  frames_of_passed taken passed r h (ap (λ (z : End). (left z).frames) e
+      ∙ ap (λ (p : StreamParts). p.frames) none_left),
+  (
+    [],
+    end_of_passed taken passed r h ∙ (ap (λ (z : End). (left z).end) e
+        ∙ ap (λ (p : StreamParts). p.end) none_left),
+  ),
 )

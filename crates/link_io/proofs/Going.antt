@@ -1,5 +1,6 @@
 -- Steps of a reader, one after another.
-use Rattle.std.proofs.Common.{◌≡◌, ℕ, ◌≤◌, ◌++◌, Bool, true, false, List, [], ◌∷◌, length, Option, None, Result}
+use Rattle.std.proofs.Common.{◌≡◌, ℕ, ◌≤◌, ◌<◌, ◌++◌, Bool, true, false, List, [], ◌∷◌, length, Option, Some, None}
+use Rattle.std.proofs.Common.{Result}
 use Rattle.std.proofs.Common.{Ok, Err, refl, sym, ◌∙◌, ap, subst, append_assoc, append-nil, arith}
 use Rattle.std.specs.Result.{IsErrAnd}
 use Rattle.std.specs.Io.KnownBytes.{Consumes}
@@ -13,6 +14,7 @@ use Rattle.link_io.specs.declared.progress.Progress.{Progress}
 use Rattle.link_io.specs.declared.progress.Progress.TheVariants.{Read, Ended, Held}
 use Rattle.link_io.specs.Reading.{Reading, AreAt, Gave, ComesFirst, Goes, GoesThrough, Offers, offered_list}
 use Rattle.link_io.specs.Reading.{FeedsPiece, MakesNext, SaysPut, HasPut, Puts, SaysRead, Reads}
+use Rattle.link_io.specs.Reading.{HasNothing, MadeAll, PutsMade, PutsNothing, event_moment}
 use Rattle.link_io.specs.Reading.{Fills}
 
 -- what a `?` hands on
@@ -187,6 +189,94 @@ module _ {D : Type 0} (made : D → List ℕ → List law.Event → Type 0) (are
       → Puts made are_all at (Ok true) a c x y
   puts_all to_make a b c x y h none now (goes, piece, offered, through) =
       puts_from (Ok true) a b c x y h goes none now (offered, piece, through_put a b c false h.put h.goes through)
+
+  -- ---- the next event, made and put at once
+
+  -- the event that is made next
+  pub made_next : (to_make : D → ℕ) (a : Reading D) (d : D) (e : law.Event) → a.offered ≡ None → a.piece ≡ []
+      → ((taken : List ℕ) (events : List law.Event) → made a.decoder taken events → made d taken (events ++ e ∷ []))
+      → to_make d < to_make a.decoder
+      → MakesNext made are_all to_make (Ok true) a (record a { decoder = d; offered = Some e })
+  made_next to_make a d e none fed makes fewer = (goes, fed, fewer)
+    where
+      goes : Goes made [] [] a (record a { decoder = d; offered = Some e })
+      goes before events (taken, whole, all) = (
+        taken,
+        append-nil before ∙ whole,
+        makes taken (events ++ []) (subst (λ (z : List law.Event). made a.decoder taken z)
+            (ap (λ (o : Option law.Event). events ++ offered_list o) none) all),
+      )
+
+  pub puts_made : (to_make : D → ℕ) (gone : Bool) (old a new : Reading D) (d : D) (e : law.Event) (x y : List law.Event)
+      → a ≡ old → old.offered ≡ None → old.piece ≡ []
+      → ((taken : List ℕ) (events : List law.Event) → made a.decoder taken events → made d taken (events ++ e ∷ []))
+      → to_make d < to_make a.decoder → event_moment e ≡ at
+      → Offers gone (record a { decoder = d; offered = Some e }) new x y
+      → PutsMade made are_all to_make at gone old new x y
+  puts_made to_make gone old a new d e x y is none fed makes fewer moment offers = record {
+    between = record a { decoder = d; offered = Some e };
+    makes =
+        subst (λ (r : Reading D). MakesNext made are_all to_make (Ok true) r
+        (record a { decoder = d; offered = Some e })) is
+        (made_next to_make a d e (ap (λ (r : Reading D). r.offered) is ∙ none)
+        (ap (λ (r : Reading D). r.piece) is ∙ fed)
+        makes fewer);
+    moment = (moment, tt);
+    offers = offers;
+  }
+
+  -- all that is there was made
+  all_made : (a : Reading D) → a.offered ≡ None → a.piece ≡ [] → MadeAll made are_all false a.decoder a.decoder
+      → GoesThrough made are_all false [] [] a a
+  all_made a none fed all before events (taken, whole, so_far) =
+      all_at a.decoder false taken (before ++ []) (events ++ offered_list a.offered) (events ++ [])
+      (sym (append-nil before ∙ (whole ∙ (ap (λ (z : List ℕ). taken ++ z) fed ∙ append-nil taken))))
+      (ap (λ (o : Option law.Event). events ++ offered_list o) none)
+      (all taken (events ++ offered_list a.offered) so_far).1
+
+  none_at : (o : Option law.Event) → o ≡ None → AreAt at (offered_list o)
+  none_at o none = subst (λ (w : Option law.Event). AreAt at (offered_list w)) (sym none) tt
+
+  pub idle_next : (to_make : D → ℕ) (a : Reading D) (x : List law.Event) → a.offered ≡ None → a.piece ≡ []
+      → MadeAll made are_all false a.decoder a.decoder → PutsNothing made are_all to_make at (Ok false) a a x x
+  idle_next to_make a x none fed all = record {
+    makes = (goes_none a, fed, none, all_made a none fed all);
+    moment = none_at a.offered none;
+    puts = refl;
+  }
+
+  pub puts_idle : (to_make : D → ℕ) (a : Reading D) (x : List law.Event) → HasNothing made are_all to_make a
+      → Puts made are_all at (Ok true) a a x x
+  puts_idle to_make a x (none, fed, all) = record {
+    put = [];
+    puts = sym (append-nil x);
+    goes = goes_none a;
+    first = ([], sym (append-nil (offered_list a.offered)), tt);
+    says = (none, fed, all_made a none fed all);
+  }
+
+  pub put_on : (to_make : D → ℕ) (a b d : Reading D) (x y z : List law.Event) → HasPut made at a b x y
+      → b.offered ≡ None → PutsMade made are_all to_make at true b d y z → HasPut made at a d x z
+  put_on to_make a b d x y z h none p = put_offered a p.between d x y z
+      (put_made a b p.between x y h p.makes.0 none p.moment) p.offers
+
+  pub puts_given_back : (to_make : D → ℕ) (a b d : Reading D) (x y z : List law.Event) → HasPut made at a b x y
+      → b.offered ≡ None → PutsMade made are_all to_make at false b d y z → Puts made are_all at (Ok false) a d x z
+  puts_given_back to_make a b d x y z h none p = puts_back a p.between d x y z
+      (put_made a b p.between x y h p.makes.0 none p.moment) p.offers
+
+  pub puts_nothing : (to_make : D → ℕ) (a b d : Reading D) (x y z : List law.Event) → HasPut made at a b x y
+      → b.offered ≡ None → PutsNothing made are_all to_make at (Ok false) b d y z
+      → Puts made are_all at (Ok true) a d x z
+  puts_nothing to_make a b d x y z h none n = subst (λ (l : List law.Event). Puts made are_all at (Ok true) a d x l)
+      (sym n.puts) (puts_all to_make a b d x y h none n.moment n.makes)
+
+  pub puts_fault : (to_make : D → ℕ) (fault : LinkFault) (a b d : Reading D) (x y z : List law.Event)
+      → HasPut made at a b x y → b.offered ≡ None → PutsNothing made are_all to_make at (Err fault) b d y z
+      → Puts made are_all at (Err fault) a d x z
+  puts_fault to_make fault a b d x y z h none n =
+      subst (λ (l : List law.Event). Puts made are_all at (Err fault) a d x l) (sym n.puts)
+      (puts_err to_make fault a b d x y h none n.moment n.makes)
 
   -- ---- reading
 

@@ -9,6 +9,8 @@ use Rattle.link_io.specs.declared.limit.Limit.{Limit}
 use Rattle.link_io.specs.declared.link_fault.LinkFault.{LinkFault}
 use Rattle.link_io.specs.declared.link_fault.LinkFault.TheVariants.{ReadFailed, WriteFailed, Malformed, StepLimit}
 use Rattle.link_io.specs.declared.link_fault.LinkFault.TheVariants.{NoMemory}
+use Rattle.link_io.specs.declared.next.Next.{Next}
+use Rattle.link_io.specs.declared.next.Next.TheVariants.{Put, GivenBack, Nothing}
 use Rattle.link_io.specs.declared.progress.Progress.{Progress}
 use Rattle.link_io.specs.declared.progress.Progress.TheVariants.{Read, Ended, Held}
 
@@ -140,6 +142,44 @@ MakesNext made are_all to_make (Err NoMemory) old new = Goes made [] [] old new
 MakesNext made are_all to_make (Err ReadFailed) old new = ⊥
 MakesNext made are_all to_make (Err WriteFailed) old new = ⊥
 MakesNext made are_all to_make (Err StepLimit) old new = ⊥
+
+-- no event was given back, and of the bytes that were read none is to be made
+abbrev pub HasNothing : {D : Type 0} → (D → List ℕ → List law.Event → Type 0) → (D → Bool → List ℕ
+    → List law.Event → Type 0)
+    → (D → ℕ) → Reading D → Type 0
+HasNothing made are_all to_make r =
+    (r.offered ≡ None) × (r.piece ≡ []) × Makes made are_all to_make (Ok None) r.decoder r.decoder
+
+-- the next event is made, and put or given back
+pub record PutsMade {D : Type 0} (made : D → List ℕ → List law.Event → Type 0) (are_all : D → Bool → List ℕ
+    → List law.Event → Type 0)
+    (to_make : D → ℕ) (at : ℕ) (gone : Bool) (old new : Reading D) (put_old put_new : List law.Event) : Type 0 where
+  pub between : Reading D
+  pub makes : MakesNext made are_all to_make (Ok true) old between
+  pub moment : AreAt at (offered_list between.offered)
+  pub offers : Offers gone between new put_old put_new
+
+-- none is made, and nothing is put
+pub record PutsNothing {D : Type 0} (made : D → List ℕ → List law.Event → Type 0) (are_all : D → Bool → List ℕ
+    → List law.Event → Type 0)
+    (to_make : D → ℕ) (at : ℕ) (answer : Result Bool LinkFault) (old new : Reading D)
+    (put_old put_new : List law.Event) : Type 0 where
+  pub makes : MakesNext made are_all to_make answer old new
+  pub moment : AreAt at (offered_list new.offered)
+  pub puts : put_new ≡ put_old
+
+-- the next event is made and put, or given back, where there is one
+abbrev pub PutsNext : {D : Type 0} → (D → List ℕ → List law.Event → Type 0) → (D → Bool → List ℕ
+    → List law.Event → Type 0)
+    → (D → ℕ) → ℕ → Result Next LinkFault → (old new : Reading D) → (put_old put_new : List law.Event) → Type 0
+PutsNext made are_all to_make at (Ok Put) old new put_old put_new =
+    PutsMade made are_all to_make at true old new put_old put_new
+PutsNext made are_all to_make at (Ok GivenBack) old new put_old put_new =
+    PutsMade made are_all to_make at false old new put_old put_new
+PutsNext made are_all to_make at (Ok Nothing) old new put_old put_new =
+    PutsNothing made are_all to_make at (Ok false) old new put_old put_new
+PutsNext made are_all to_make at (Err fault) old new put_old put_new =
+    PutsNothing made are_all to_make at (Err fault) old new put_old put_new
 
 -- whether all is put: what the answer says
 abbrev pub SaysPut : {D : Type 0} → (D → List ℕ → List law.Event → Type 0) → (D → Bool → List ℕ → List law.Event

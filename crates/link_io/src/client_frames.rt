@@ -1,6 +1,7 @@
 //! From a client's bytes to its events: each frame becomes a `ClientMessage`.
 
 ghost use Rattle.std.specs.Prelude.{◌≡◌, ◌≤◌, ◌+◌, ◌++◌, ◌∷◌, [], ℕ, List, length, OnOk, OnErr, IfOk};
+ghost use Rattle.std.specs.Prelude.{true, Ok, None};
 ghost use Rattle.fix_framing.specs.fix_fields.Field.{Field, fields_text};
 ghost use Rattle.fix_framing.specs.Stream.{Passed, left, longest};
 ghost use Rattle.link_io.specs.Decoding.{NextFrame};
@@ -78,10 +79,21 @@ impl Decoder for ClientFrames {
         }))
     }
 
+    fn is_idle(&self) -> bool {
+        has_no_frame(&self.framer)
+    }
+
     /// As the framer counts them; 2^64 - 1 stands for more.
     fn skipped(&self) -> u64 {
         self.framer.skipped()
     }
+}
+
+/// Whether the framer holds no byte, and so no frame.
+fn has_no_frame(framer: &Framer) -> bool
+    ensures { result ≡ true → NextFrame (Ok None) framer.now framer.now }
+{
+    framer.is_idle()
 }
 
 /// Moves the next frame out of the framer.

@@ -8,7 +8,7 @@ use std::alloc::{AllocError, Global};
 ///
 /// Contracts see whose events they are, and which events were made of which bytes.
 pub trait Decoder: Drop {
-    ghost use Rattle.std.specs.Prelude.{◌≡◌, ◌++◌, ℕ, List, Bool, OnOk, OnErr, IfOk, IfSome};
+    ghost use Rattle.std.specs.Prelude.{◌≡◌, ◌++◌, ℕ, List, Bool, true, Ok, None, OnOk, OnErr, IfOk, IfSome};
     ghost use Rattle.gate_law.specs.Events as law;
     ghost use Rattle.link_io.specs.Reading.{Feeds, Makes, event_moment};
     ghost use Rattle.gate_events.specs.Seen.{event_seen};
@@ -40,6 +40,10 @@ pub trait Decoder: Drop {
         ensures makes { Makes made are_all to_make result self.old self.new }
         ensures moment { IfOk result (λ next. IfSome next (λ event. event_moment (event_seen event) ≡ at)) }
         ensures source { source self.new ≡ source self.old };
+
+    /// Whether it holds no byte: then there is no event to be made, and `make` needn't be asked. Takes no memory.
+    fn is_idle(&self) -> bool
+        ensures { result ≡ true → Makes made are_all to_make (Ok None) self.now self.now };
 
     /// How many bytes were skipped because they are part of no message. Takes no memory.
     fn skipped(&self) -> u64

@@ -9,6 +9,7 @@ mod decoder;
 mod gate;
 mod limit;
 mod link_fault;
+mod next;
 mod piece;
 mod port_packets;
 mod progress;

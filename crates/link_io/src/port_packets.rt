@@ -1,6 +1,6 @@
 //! From a port's bytes to its events: each packet becomes a `PortPacket`.
 
-ghost use Rattle.std.specs.Prelude.{◌≡◌, []};
+ghost use Rattle.std.specs.Prelude.{◌≡◌, [], true, Ok, None};
 ghost use Rattle.soup_packets.specs.Stream.{Fed};
 ghost use Rattle.link_io.specs.Decoding.{NextPacket};
 
@@ -74,10 +74,21 @@ impl Decoder for PortPackets {
         }))
     }
 
+    fn is_idle(&self) -> bool {
+        has_no_packet(&self.packets)
+    }
+
     /// 0: each byte is part of a packet.
     fn skipped(&self) -> u64 {
         0
     }
+}
+
+/// Whether the reader holds no byte, and so no packet.
+fn has_no_packet(packets: &Packets) -> bool
+    ensures { result ≡ true → NextPacket (Ok None) packets.now packets.now }
+{
+    packets.is_idle()
 }
 
 /// Copies the next packet out of the reader.

@@ -1,8 +1,9 @@
 //! The reader of a link: reads its stream and puts the events that the bytes make.
 
 ghost use Rattle.std.specs.Prelude.{◌≡◌, ◌≤◌, ◌-◌, None, Some, Err, true, false, [], ◌++◌, OnOk, OnErr, IfOk};
+ghost use Rattle.gate_events.specs.Seen.{event_seen};
 ghost use Rattle.link_io.specs.Limits.{refusal, limit_after};
-ghost use Rattle.link_io.specs.Reading.{AreAt, offered_list, FeedsPiece, Gave, MakesNext, Offers, Puts, Reads};
+ghost use Rattle.link_io.specs.Reading.{FeedsPiece, Gave, HasNothing, Offers, Puts, PutsNext, Reads};
 ghost use Rattle.link_io.specs.Answered.{ReadsBy};
 ghost use Rattle.link_io.specs.Decoding.{MadeOfFrames, MadeOfPackets};
 ghost use Rattle.link_io.specs.declared.link_fault.LinkFault.{LinkFault as Fault};
@@ -12,6 +13,7 @@ use crate::decoder::Decoder;
 use crate::gate::Gate;
 use crate::limit::Limit;
 use crate::link_fault::LinkFault;
+use crate::next::Next;
 use crate::piece::Piece;
 use crate::port_packets::PortPackets;
 use crate::progress::Progress;
@@ -152,7 +154,7 @@ impl<D: Decoder> Reader<D> {
         ensures source { D.source self.new.decoder ≡ D.source self.old.decoder }
         ensures none_taken { G.was_taken gate.new ≡ G.was_taken gate.old }
     {
-        if !self.put_all(alloc, gate, at)? {
+        if !self.put_rest(alloc, gate, at)? {
             return Ok(Progress::Held);
         }
         let count = self.piece.fill(stream)?;
@@ -163,6 +165,26 @@ impl<D: Decoder> Reader<D> {
             return Ok(Progress::Held);
         }
         Ok(Progress::Read(count))
+    }
+
+    /// Puts what is left of earlier steps: mostly nothing is. Whether all was put.
+    fn put_rest<G: Gate>(&mut self, alloc: Global, gate: &mut G, at: u64) -> Result<bool, LinkFault>
+        ensures puts { Puts D.made D.are_all at result self.old self.new (G.was_put gate.old) (G.was_put gate.new) }
+        ensures limit { self.new.limit ≡ self.old.limit }
+        ensures source { D.source self.new.decoder ≡ D.source self.old.decoder }
+        ensures none_taken { G.was_taken gate.new ≡ G.was_taken gate.old }
+    {
+        if self.has_nothing() {
+            return Ok(true);
+        }
+        self.put_all(alloc, gate, at)
+    }
+
+    /// Whether no event was given back, and no byte lies there of which one could be made.
+    fn has_nothing(&self) -> bool
+        ensures { result ≡ true → HasNothing D.made D.are_all D.to_make self.now }
+    {
+        self.offered.is_none() && self.piece.as_slice().is_empty() && self.decoder.is_idle()
     }
 
     /// Puts what was given back and what can be made of what was read. Whether all was put.
@@ -176,12 +198,14 @@ impl<D: Decoder> Reader<D> {
             return Ok(false);
         }
         self.feed(alloc)?;
-        while self.make(alloc, at)? {
-            if !self.offer(gate) {
-                return Ok(false);
+        loop {
+            let next = self.put_next(alloc, gate, at)?;
+            match next {
+                Next::Put => {}
+                Next::GivenBack => return Ok(false),
+                Next::Nothing => return Ok(true),
             }
         }
-        Ok(true)
     }
 
     /// Puts the event that was given back, if there is one. Whether it is gone.
@@ -189,13 +213,30 @@ impl<D: Decoder> Reader<D> {
         ensures offers { Offers result self.old self.new (G.was_put gate.old) (G.was_put gate.new) }
         ensures none_taken { G.was_taken gate.new ≡ G.was_taken gate.old }
     {
-        // An event is large: it is moved only where there is one.
         if self.offered.is_none() {
             return true;
         }
-        let Some(event) = self.offered.take() else {
-            return true;
-        };
+        self.offer_again(gate)
+    }
+
+    /// The same where there is one: in a function of its own, since each that holds an event pays for its size.
+    fn offer_again<G: Gate>(&mut self, gate: &mut G) -> bool
+        ensures offers { Offers result self.old self.new (G.was_put gate.old) (G.was_put gate.new) }
+        ensures none_taken { G.was_taken gate.new ≡ G.was_taken gate.old }
+    {
+        match self.offered.take() {
+            Some(event) => self.put_event(gate, event),
+            None => true,
+        }
+    }
+
+    /// Puts an event, and keeps it where it is given back. Whether it is gone.
+    fn put_event<G: Gate>(&mut self, gate: &mut G, event: Event) -> bool
+        requires { self.old.offered ≡ None }
+        ensures offers { Offers result (record self.old { offered = Some (event_seen event) }) self.new
+            (G.was_put gate.old) (G.was_put gate.new) }
+        ensures none_taken { G.was_taken gate.new ≡ G.was_taken gate.old }
+    {
         match gate.put(event) {
             Ok(()) => true,
             Err(back) => {
@@ -217,21 +258,44 @@ impl<D: Decoder> Reader<D> {
         Ok(())
     }
 
-    /// Makes the next event. Whether there is one.
-    fn make(&mut self, alloc: Global, at: u64) -> Result<bool, LinkFault>
+    /// Makes the next event, and puts it.
+    fn put_next<G: Gate>(&mut self, alloc: Global, gate: &mut G, at: u64) -> Result<Next, LinkFault>
         requires put { self.old.offered ≡ None }
         requires fed { self.old.piece ≡ [] }
-        ensures makes { MakesNext D.made D.are_all D.to_make result self.old self.new }
-        ensures moment { AreAt at (offered_list self.new.offered) }
+        ensures puts { PutsNext D.made D.are_all D.to_make at result self.old self.new
+            (G.was_put gate.old) (G.was_put gate.new) }
         ensures limit { self.new.limit ≡ self.old.limit }
         ensures source { D.source self.new.decoder ≡ D.source self.old.decoder }
+        ensures none_taken { G.was_taken gate.new ≡ G.was_taken gate.old }
     {
-        match self.decoder.make(alloc, at)? {
-            Some(event) => {
-                self.offered = Some(event);
-                Ok(true)
-            }
-            None => Ok(false),
+        if self.decoder.is_idle() {
+            return Ok(Next::Nothing);
+        }
+        self.put_made(alloc, gate, at)
+    }
+
+    /// The same where there may be one: in a function of its own, since each that holds an event pays for its size.
+    fn put_made<G: Gate>(&mut self, alloc: Global, gate: &mut G, at: u64) -> Result<Next, LinkFault>
+        requires put { self.old.offered ≡ None }
+        requires fed { self.old.piece ≡ [] }
+        ensures puts { PutsNext D.made D.are_all D.to_make at result self.old self.new
+            (G.was_put gate.old) (G.was_put gate.new) }
+        ensures limit { self.new.limit ≡ self.old.limit }
+        ensures source { D.source self.new.decoder ≡ D.source self.old.decoder }
+        ensures none_taken { G.was_taken gate.new ≡ G.was_taken gate.old }
+    {
+        match self.decoder.make(alloc, at) {
+            Ok(made) => match made {
+                Some(event) => {
+                    if self.put_event(gate, event) {
+                        Ok(Next::Put)
+                    } else {
+                        Ok(Next::GivenBack)
+                    }
+                }
+                None => Ok(Next::Nothing),
+            },
+            Err(fault) => Err(fault),
         }
     }
 }

@@ -1,7 +1,7 @@
 //! The packets of a stream that comes in pieces.
 
 ghost use Rattle.std.specs.Prelude.{◌≡◌, ◌++◌, ◌*◌, ◌^◌, ◌<◌, ◌≤◌, ℕ, [], ◌∷◌, List, length, IfOk, IfNone, OnOk, OnErr};
-ghost use Rattle.std.specs.Prelude.{Result, IsErrOf, Err, IsOk, IsTrue, ◌↔◌, ⊤};
+ghost use Rattle.std.specs.Prelude.{Result, IsErrOf, Err, IsOk, IsTrue, true, ◌↔◌, ⊤};
 ghost use Rattle.std.specs.Borrow.{sem, follows_so};
 ghost use mathlib.Core.Option.{none};
 ghost use Rattle.wire_streams.specs.Buffer.{Takes, Counts};
@@ -122,6 +122,22 @@ impl Packets {
             → Fed stream passed self.now → ArePackets stream passed × EndsEmpty stream passed }
     {
         front_of(self.buffer.held())
+    }
+
+    /// Whether it holds no byte: then those packets that were passed are the stream's. Takes no memory.
+    pub fn is_idle(&self) -> bool
+        ensures held { IsTrue result ↔ (self.now.held ≡ []) }
+        ensures all { result ≡ true → (stream : List ℕ) (passed : List Packet) → Fed stream passed self.now
+            → ArePackets stream passed }
+    {
+        self.holds_nothing()
+    }
+
+    /// Whether it holds no byte.
+    fn holds_nothing(&self) -> bool
+        ensures { IsTrue result ↔ (self.now.held ≡ []) }
+    {
+        self.buffer.held().is_empty()
     }
 
     /// Whether a length of 0 stands in front.

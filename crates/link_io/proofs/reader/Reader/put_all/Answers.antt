@@ -1,11 +1,12 @@
-use Rattle.std.proofs.Common.{◌∙◌, ap, Bool, Result, sym, subst}
+use Rattle.std.proofs.Common.{◌∙◌, ◌<◌, ap, Bool, Result, sym, subst}
 use Rattle.link_io.specs.declared.link_fault.LinkFault.{LinkFault}
 use Rattle.link_io.specs.Reading.{Reading, Puts}
-use Rattle.link_io.proofs.Going.{loop_start, put_err, put_made, put_none, put_offered, puts_back, puts_err, puts_all}
+use Rattle.link_io.proofs.Going.{loop_start, put_err, put_none, put_on, puts_back, puts_fault, puts_given_back}
+use Rattle.link_io.proofs.Going.{puts_nothing}
 use Rattle.link_io.proofs.reader.Reader.put_all.Goals as goal
 
-pub loop-self-init : goal.loop-self-init
-loop-self-init g c =
+pub loop-next-init : goal.loop-next-init
+loop-next-init g c =
     let offers = c.if-not-offer.ensures.offers in
     let start = loop_start g.D.Decoder.made g.D.Decoder.are_all c.args.at c.args.self.now c.offer.new.self
     c.feed.new.self (g.G.Gate.was_put c.args.gate.now)
@@ -26,50 +27,46 @@ returns-then-not-offer-clause-puts g c =
     (g.G.Gate.was_put c.offer.new.gate)
     (put_none g.D.Decoder.made g.D.Decoder.are_all c.args.at c.args.self.now x) c.if-not-offer.ensures.offers
 
-pub returns-in_err-make-clause-puts : goal.returns-in_err-make-clause-puts
-returns-in_err-make-clause-puts g c =
+pub returns-in_err-next-clause-puts : goal.returns-in_err-next-clause-puts
+returns-in_err-next-clause-puts g c =
     subst (λ (r : Result Bool LinkFault). Puts g.D.Decoder.made g.D.Decoder.are_all c.args.at r c.args.self.now
-    c.make.new.self (g.G.Gate.was_put c.args.gate.now) (g.G.Gate.was_put c.loop-self.gate))
-    (sym (put_err c.from_residual-in_err-make.result c.in_err-make.field-0.0 c.from_residual-in_err-make.ensures.1))
-    (puts_err g.D.Decoder.made g.D.Decoder.are_all c.args.at g.D.Decoder.to_make c.in_err-make.field-0.0 c.args.self.now
-    c.loop-self.self c.make.new.self (g.G.Gate.was_put c.args.gate.now)
-    (g.G.Gate.was_put c.loop-self.gate) c.loop-self.invariant.put c.loop-self.invariant.offered
-    c.in_err-make.ensures.moment c.in_err-make.ensures.makes)
+    c.put_next.new.self (g.G.Gate.was_put c.args.gate.now) (g.G.Gate.was_put c.put_next.new.gate))
+    (sym (put_err c.from_residual-in_err-next.result c.in_err-next.field-0.0 c.from_residual-in_err-next.ensures.1))
+    (puts_fault g.D.Decoder.made g.D.Decoder.are_all c.args.at g.D.Decoder.to_make c.in_err-next.field-0.0
+    c.args.self.now c.loop-next.self c.put_next.new.self (g.G.Gate.was_put c.args.gate.now)
+    (g.G.Gate.was_put c.loop-next.gate) (g.G.Gate.was_put c.put_next.new.gate) c.loop-next.invariant.put
+    c.loop-next.invariant.offered c.in_err-next.ensures.puts)
 
-pub returns-then-not-offer-2-clause-puts : goal.returns-then-not-offer-2-clause-puts
-returns-then-not-offer-2-clause-puts g c =
-    let one = rw c.if-branch.true at c.in_ok-make.ensures.makes in
-    let x = g.G.Gate.was_put c.args.gate.now in
-    let y = g.G.Gate.was_put c.loop-self.gate in
-    puts_back g.D.Decoder.made g.D.Decoder.are_all c.args.at c.args.self.now c.make.new.self
-    c.offer-in-loop-self.new.self x y (g.G.Gate.was_put c.offer-in-loop-self.new.gate)
-    (put_made g.D.Decoder.made g.D.Decoder.are_all c.args.at c.args.self.now c.loop-self.self c.make.new.self x y
-    c.loop-self.invariant.put one.0 c.loop-self.invariant.offered c.in_ok-make.ensures.moment)
-    c.if-not-offer-2.ensures.offers
+pub returns-in-GivenBack-clause-puts : goal.returns-in-GivenBack-clause-puts
+returns-in-GivenBack-clause-puts g c =
+    puts_given_back g.D.Decoder.made g.D.Decoder.are_all c.args.at g.D.Decoder.to_make c.args.self.now
+    c.loop-next.self c.put_next.new.self (g.G.Gate.was_put c.args.gate.now) (g.G.Gate.was_put c.loop-next.gate)
+    (g.G.Gate.was_put c.put_next.new.gate) c.loop-next.invariant.put c.loop-next.invariant.offered
+    (rw c.in-GivenBack.is at c.in_ok-next.ensures.puts)
 
-pub loop-self-preserved : goal.loop-self-preserved
-loop-self-preserved g c =
-    let one = rw c.if-branch.true at c.in_ok-make.ensures.makes in
-    let offers = c.if-not-offer-2.ensures.offers in
-    let x = g.G.Gate.was_put c.args.gate.now in
-    let y = g.G.Gate.was_put c.loop-self.gate in
+pub returns-in-Nothing-clause-puts : goal.returns-in-Nothing-clause-puts
+returns-in-Nothing-clause-puts g c =
+    puts_nothing g.D.Decoder.made g.D.Decoder.are_all c.args.at g.D.Decoder.to_make c.args.self.now
+    c.loop-next.self c.put_next.new.self (g.G.Gate.was_put c.args.gate.now) (g.G.Gate.was_put c.loop-next.gate)
+    (g.G.Gate.was_put c.put_next.new.gate) c.loop-next.invariant.put c.loop-next.invariant.offered
+    (rw c.in-Nothing.is at c.in_ok-next.ensures.puts)
+
+pub loop-next-smaller : goal.loop-next-smaller
+loop-next-smaller g c =
+    let one = rw c.in-Put.is at c.in_ok-next.ensures.puts in
+    subst (λ (r : Reading g.row.D.Denot). g.D.Decoder.to_make r.decoder < g.D.Decoder.to_make c.loop-next.self.decoder)
+    (sym one.offers.0) one.makes.2
+
+pub loop-next-preserved : goal.loop-next-preserved
+loop-next-preserved g c =
+    let one = rw c.in-Put.is at c.in_ok-next.ensures.puts in
     record {
-      put = put_offered g.D.Decoder.made g.D.Decoder.are_all c.args.at c.args.self.now c.make.new.self
-          c.offer-in-loop-self.new.self x y (g.G.Gate.was_put c.offer-in-loop-self.new.gate)
-          (put_made g.D.Decoder.made g.D.Decoder.are_all c.args.at c.args.self.now c.loop-self.self c.make.new.self x y
-          c.loop-self.invariant.put one.0 c.loop-self.invariant.offered c.in_ok-make.ensures.moment) offers;
-      offered = ap (λ (r : Reading g.row.D.Denot). r.offered) offers.0;
-      piece = ap (λ (r : Reading g.row.D.Denot). r.piece) offers.0 ∙ one.1;
-      limit = ap (λ (r : Reading g.row.D.Denot). r.limit) offers.0
-          ∙ (c.in_ok-make.ensures.limit ∙ c.loop-self.invariant.limit);
-      source = ap (λ (r : Reading g.row.D.Denot). g.D.Decoder.source r.decoder) offers.0
-          ∙ (c.in_ok-make.ensures.source ∙ c.loop-self.invariant.source);
-      none_taken = c.if-not-offer-2.ensures.none_taken ∙ c.loop-self.invariant.none_taken;
+      put = put_on g.D.Decoder.made g.D.Decoder.are_all c.args.at g.D.Decoder.to_make c.args.self.now c.loop-next.self
+          c.put_next.new.self (g.G.Gate.was_put c.args.gate.now) (g.G.Gate.was_put c.loop-next.gate)
+          (g.G.Gate.was_put c.put_next.new.gate) c.loop-next.invariant.put c.loop-next.invariant.offered one;
+      offered = ap (λ (r : Reading g.row.D.Denot). r.offered) one.offers.0;
+      piece = ap (λ (r : Reading g.row.D.Denot). r.piece) one.offers.0 ∙ one.makes.1;
+      limit = c.in_ok-next.ensures.limit ∙ c.loop-next.invariant.limit;
+      source = c.in_ok-next.ensures.source ∙ c.loop-next.invariant.source;
+      none_taken = c.in_ok-next.ensures.none_taken ∙ c.loop-next.invariant.none_taken;
     }
-
-pub returns-clause-puts : goal.returns-clause-puts
-returns-clause-puts g c =
-    puts_all g.D.Decoder.made g.D.Decoder.are_all c.args.at g.D.Decoder.to_make c.args.self.now c.loop-self.self
-    c.make.new.self
-    (g.G.Gate.was_put c.args.gate.now) (g.G.Gate.was_put c.loop-self.gate) c.loop-self.invariant.put
-    c.loop-self.invariant.offered c.in_ok-make.ensures.moment (rw c.if-branch.false at c.in_ok-make.ensures.makes)

@@ -2,8 +2,8 @@ use Rattle.std.proofs.Common.{◌≡◌, [], None}
 use Rattle.link_io.specs.Reading.{HasPut}
 use Rattle.link_io.proofs.reader.Reader.put_all.Given as goal
 
-abbrev pub invariant-loop-self : goal.invariant-loop-self
-invariant-loop-self g l = record {
+abbrev pub invariant-loop-next : goal.invariant-loop-next
+invariant-loop-next g l = record {
   put : HasPut g.D.Decoder.made l.at l.fn.self l.self (g.G.Gate.was_put l.fn.gate) (g.G.Gate.was_put l.gate);
   offered : l.self.offered ≡ None;
   piece : l.self.piece ≡ [];
@@ -12,5 +12,5 @@ invariant-loop-self g l = record {
   none_taken : g.G.Gate.was_taken l.gate ≡ g.G.Gate.was_taken l.fn.gate;
 }
 
-abbrev pub decreases-loop-self : goal.decreases-loop-self
-decreases-loop-self g l = g.D.Decoder.to_make l.self.decoder
+abbrev pub decreases-loop-next : goal.decreases-loop-next
+decreases-loop-next g l = g.D.Decoder.to_make l.self.decoder
