@@ -35,6 +35,31 @@ pub fn told_client(
     ensures settled { ClientsStaySettled clients.old clients.new }
     ensures length { length clients.new.lines.items ≡ length clients.old.lines.items }
 {
+    if first.is_empty() {
+        close_client(clients, place, &rest);
+        return Ok(rest);
+    }
+    told_both(clients, alloc, place, first, rest)
+}
+
+/// The same where the session has output, too: mostly it hands a message on and has none.
+fn told_both(
+    clients: &mut Clients,
+    alloc: Global,
+    place: usize,
+    first: Vec<SessionOut>,
+    rest: ShortList<LinkOut>,
+) -> Result<ShortList<LinkOut>, AllocError>
+    requires place { place < length clients.old.lines.items }
+    ensures outs { IfOk result (λ outs. (links : ℕ → Option ℕ) → ClientLinks links clients.old.lines.items
+        → map link_out_seen outs.items ≡ outs_told_on (links (place + 1)) (map told_bytes first.items)
+        ++ map link_out_seen rest.items) }
+    ensures leave { ClientsUncalled clients.old clients.new }
+    ensures links { IfOk result (λ outs. (links : ℕ → Option ℕ) → ClientLinks links clients.old.lines.items
+        → ClientLinks (unlinked (place + 1) (map link_out_seen outs.items) links) clients.new.lines.items) }
+    ensures settled { ClientsStaySettled clients.old clients.new }
+    ensures length { length clients.new.lines.items ≡ length clients.old.lines.items }
+{
     let link = clients.lines[place].link;
     let outs = told_first(alloc, link, first, rest)?;
     close_client(clients, place, &outs);

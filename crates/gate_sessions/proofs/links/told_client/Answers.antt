@@ -5,8 +5,8 @@ use Rattle.gate_events.specs.Seen.{link_out_seen}
 use Rattle.gate_sessions.specs.Links.{unlinked}
 use Rattle.gate_sessions.proofs.links.told_client.Goals as goal
 
-pub returns-clause-links : goal.returns-clause-links
-returns-clause-links c links are =
+pub returns-then-is_empty-clause-links : goal.returns-then-is_empty-clause-links
+returns-then-is_empty-clause-links c links are =
     subst (λ (outs : List LinkOut). ClientLinks
     (unlinked (c.args.place + 1) (map link_out_seen outs) links) c.close_client.new.clients.lines.items)
     c.deref.ensures.value (c.close_client.ensures.links links are)
