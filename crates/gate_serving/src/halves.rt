@@ -14,7 +14,7 @@ use crate::reading::read;
 use crate::slot::{Given, Next, Slot};
 use crate::writer_worker::WriterWorker;
 use gate_events::Recipient;
-use gate_workers::{Clock, WriterEnd};
+use gate_workers::{Clock, NewLink, WriterEnd};
 use link_io::{Gate, LinkFault, Prompt};
 use std::alloc::Global;
 use std::io::Read;
@@ -229,10 +229,12 @@ where
     {
         let Given { stream, mut closer } = given;
         let stop = self.slot.stop();
-        let (peer, steps) = (self.peer, self.steps.max(1));
-        let end = self
-            .worker
-            .write(rt, alloc, peer, link, steps, stream, stop);
+        let link = NewLink {
+            number: link,
+            steps: self.steps.max(1),
+            stream,
+        };
+        let end = self.worker.write(rt, alloc, self.peer, link, stop);
         match end {
             Ok(WriterEnd::Stopped) => {}
             Ok(WriterEnd::Closed) => closer.close(stop),

@@ -4,7 +4,7 @@ ghost use Rattle.std.specs.Prelude.{◌≡◌, ◌≤◌, IfSome};
 ghost use Rattle.gate_workers.specs.SharedWriters.{HasEnded, WasWritten};
 
 use gate_events::Recipient;
-use gate_workers::{Clock, SharedWriter, WriterEnd, client_writer, port_writer};
+use gate_workers::{Clock, NewLink, SharedWriter, WriterEnd, client_writer, port_writer};
 use link_io::{Gate, LinkFault, Prompt};
 use std::alloc::Global;
 use std::io::Write;
@@ -31,29 +31,25 @@ impl<'a, W: Prompt + Drop, G: Gate + Drop, C> WriterWorker<'a, W, G, C> {
 }
 
 impl<'a, W: Prompt + Drop, G: Gate + Drop, C: Clock> WriterWorker<'a, W, G, C> {
-    /// Opens a link at the shared writer, and writes it until it is over, in this many steps at most. `WriteFailed` if
-    /// the shared writer has another one open, or this isn't its next one.
+    /// Opens a link at the shared writer, and writes it until it is over. `WriteFailed` if the shared writer has
+    /// another one open, or this isn't its next one.
     pub(crate) fn write<R: Wait>(
         &mut self,
         rt: &R,
         alloc: Global,
         peer: Recipient,
-        link: u64,
-        steps: u64,
-        stream: W,
+        link: NewLink<W>,
         stop: &AtomicBool,
     ) -> Result<WriterEnd, LinkFault>
-        requires from_one { 1 ≤ steps }
+        requires from_one { 1 ≤ link.steps }
         ensures written { HasEnded W.contents result }
     {
         let (writer, clock) = (self.shared_writer, &mut self.clock);
         let written = match peer {
             Recipient::Client(client) => {
-                client_writer(rt, alloc, client, link, steps, stream, writer, clock, stop)
+                client_writer(rt, alloc, client, link, writer, clock, stop)
             }
-            Recipient::Port(port) => {
-                port_writer(rt, alloc, port, link, steps, stream, writer, clock, stop)
-            }
+            Recipient::Port(port) => port_writer(rt, alloc, port, link, writer, clock, stop),
         };
         end_of(written)
     }

@@ -23,4 +23,4 @@ pub use ending::ends_link;
 pub use reader::{client_reader, port_reader};
 pub use shared_writer::SharedWriter;
 pub use ticks::ticker;
-pub use writer::{WriterEnd, client_writer, port_writer};
+pub use writer::{NewLink, WriterEnd, client_writer, port_writer};

@@ -20,39 +20,38 @@ pub enum WriterEnd {
     Stopped,
 }
 
-/// Opens a client's link at its shared writer on this stream, and writes the link's output until the core closes it, or
-/// until `stop` is set and nothing is queued. How it ended, and its stream. Other threads may write promptly through
-/// the same shared writer meanwhile. It pauses if nothing was queued or memory ran out; if it took a list it steps the
-/// core, since an event may have waited for the room.
+/// A link that is to be written.
+#[derive(Drop)]
+pub struct NewLink<W> {
+    /// Its number among those of its client or port, from 1.
+    pub number: u64,
+    /// How many steps its writer makes at most, 1 or more.
+    pub steps: u64,
+    /// What it is written onto.
+    pub stream: W,
+}
+
+/// Opens a client's link at its shared writer, and writes the link's output until the core closes it, or until `stop`
+/// is set and nothing is queued. How it ended, and its stream. Other threads may write promptly through the same shared
+/// writer meanwhile. It pauses if nothing was queued or memory ran out; if it took a list it steps the core, since an
+/// event may have waited for the room.
 ///
-/// `WriteFailed` if a write failed or took no byte, `StepLimit` at step number `steps`, 1 or more: of the link's output
+/// `WriteFailed` if a write failed or took no byte, `StepLimit` at the last of the link's steps: of the link's output
 /// the first bytes went out. `None` if the shared writer has another link open, or this isn't its next one: then
 /// nothing is written.
 pub fn client_writer<R: Wait, W: Prompt + Drop, G: Gate + Drop, C: Clock>(
     rt: &R,
     alloc: Global,
     client: ClientNumber,
-    link: u64,
-    steps: u64,
-    stream: W,
+    link: NewLink<W>,
     shared_writer: &SharedWriter<W, G>,
     clock: &mut C,
     stop: &AtomicBool,
 ) -> Option<(Result<WriterEnd, LinkFault>, W)>
-    requires from_one { 1 ≤ steps }
+    requires from_one { 1 ≤ link.steps }
     ensures written { IfSome result (λ e. ∥ WasWritten W.contents e.0 e.1 ∥₁) }
 {
-    write_link(
-        rt,
-        alloc,
-        client.number(),
-        link,
-        steps,
-        stream,
-        shared_writer,
-        clock,
-        stop,
-    )
+    write_link(rt, alloc, client.number(), link, shared_writer, clock, stop)
 }
 
 /// Opens a port's link at its shared writer, and writes its output, as `client_writer` does.
@@ -60,27 +59,15 @@ pub fn port_writer<R: Wait, W: Prompt + Drop, G: Gate + Drop, C: Clock>(
     rt: &R,
     alloc: Global,
     port: PortNumber,
-    link: u64,
-    steps: u64,
-    stream: W,
+    link: NewLink<W>,
     shared_writer: &SharedWriter<W, G>,
     clock: &mut C,
     stop: &AtomicBool,
 ) -> Option<(Result<WriterEnd, LinkFault>, W)>
-    requires from_one { 1 ≤ steps }
+    requires from_one { 1 ≤ link.steps }
     ensures written { IfSome result (λ e. ∥ WasWritten W.contents e.0 e.1 ∥₁) }
 {
-    write_link(
-        rt,
-        alloc,
-        port.number(),
-        link,
-        steps,
-        stream,
-        shared_writer,
-        clock,
-        stop,
-    )
+    write_link(rt, alloc, port.number(), link, shared_writer, clock, stop)
 }
 
 /// The same for the client or port of this number.
@@ -88,16 +75,19 @@ fn write_link<R: Wait, W: Prompt + Drop, G: Gate + Drop, C: Clock>(
     rt: &R,
     alloc: Global,
     number: u16,
-    link: u64,
-    steps: u64,
-    stream: W,
+    link: NewLink<W>,
     shared_writer: &SharedWriter<W, G>,
     clock: &mut C,
     stop: &AtomicBool,
 ) -> Option<(Result<WriterEnd, LinkFault>, W)>
-    requires from_one { 1 ≤ steps }
+    requires from_one { 1 ≤ link.steps }
     ensures written { IfSome result (λ e. ∥ WasWritten W.contents e.0 e.1 ∥₁) }
 {
+    let NewLink {
+        number: link,
+        steps,
+        stream,
+    } = link;
     if shared_writer
         .open(rt, alloc, number, link, steps, stream)
         .is_err()
