@@ -111,13 +111,13 @@ module _ {B : Type 0} (has_ended : Result WriterEnd LinkFault → Type 0) where
 
 -- ---- a line and its halves
 
-module _ {O G C W K : Type 0} (has_ended : O → Type 0) (opened : O → ℕ) (log : Worker G C → ReaderLog) (was_taken : G → List (List LinkOut)) where
+module _ {O G C P W K : Type 0} (has_ended : O → Type 0) (opened : O → ℕ) (log : Worker G C → ReaderLog) (was_taken : G → List (List LinkOut)) where
   -- a half that is as it was has read no link
-  pub reads_did : (old new : Reads O (Worker G C) W K) → old.all_over ≡ false
+  pub reads_did : (old new : Reads O (Worker G C) P W K) → old.all_over ≡ false
       → MayBeDone (ReadsDid has_ended opened log was_taken) old new
       → ReadsDid has_ended opened log was_taken old new
   reads_did old new fresh may = ⊎_elim
-      (λ (same : new ≡ old). subst (λ (n : Reads O (Worker G C) W K). ReadsDid has_ended opened log was_taken old n)
+      (λ (same : new ≡ old). subst (λ (n : Reads O (Worker G C) P W K). ReadsDid has_ended opened log was_taken old n)
       (sym same) (
         refl,
         refl,
@@ -174,15 +174,16 @@ in_part reads over HasEnded o p f g x y h = record {
   whole = λ e. absurd (false≢true e);
 }
 
-module _ {O G C B W K : Type 0} (has_ended : O → Type 0) (opened : O → ℕ) (log : Worker G C → ReaderLog) (g_taken : G → List (List LinkOut)) (writer_ended : Result WriterEnd LinkFault → Type 0) where
+module _ {O G C B P W K : Type 0} (has_ended : O → Type 0) (opened : O → ℕ) (log : Worker G C → ReaderLog) (g_taken : G → List (List LinkOut)) (writer_ended : Result WriterEnd LinkFault → Type 0) where
   -- what both halves of a line may have done
-  abbrev pub HalvesDid : (b c : Reads O (Worker G C) W K × Writes B W K) → Type 0
+  abbrev pub HalvesDid : (b c : Reads O (Worker G C) P W K × Writes B W K) → Type 0
   HalvesDid b c = MayBeDone (ReadsDid has_ended opened log g_taken) b.0 c.0
       × MayBeDone (WritesDid writer_ended) b.1 c.1
 
-  served_as : (over : Bool) (a : Line O (Worker G C) B) (b c : Reads O (Worker G C) W K × Writes B W K)
+  served_as : (over : Bool) (a : Line O (Worker G C) B) (b c : Reads O (Worker G C) P W K × Writes B W K)
       (d : Line O (Worker G C) B) → IsSplit a b → HalvesDid b c → IsJoined c d
-      → (LineRead (reads_of a.peer) c.0.all_over (has_ended d.opener) (opened a.opener) (opened d.opener) a.fault d.fault
+      → (LineRead (reads_of a.peer) c.0.all_over (has_ended d.opener) (opened a.opener)
+      (opened d.opener) a.fault d.fault
       (log a.reader) (log d.reader)
       → LineRead (reads_of a.peer) over (has_ended d.opener) (opened a.opener) (opened d.opener) a.fault d.fault
       (log a.reader) (log d.reader))
@@ -201,14 +202,14 @@ module _ {O G C B W K : Type 0} (has_ended : O → Type 0) (opened : O → ℕ) 
             ∙ (read.3 ∙ ap (λ (z : Worker G C). g_taken z.gate) split.3);
       }
 
-  pub served_whole : (a : Line O (Worker G C) B) (b c : Reads O (Worker G C) W K × Writes B W K)
+  pub served_whole : (a : Line O (Worker G C) B) (b c : Reads O (Worker G C) P W K × Writes B W K)
       (d : Line O (Worker G C) B) → IsSplit a b → HalvesDid b c → c.0.all_over ≡ true → IsJoined c d
       → LineServed has_ended opened log g_taken writer_ended true a d
   served_whole a b c d split did over joined = served_as true a b c d split did joined
       (λ h. subst (λ (z : Bool). LineRead (reads_of a.peer) z (has_ended d.opener) (opened a.opener) (opened d.opener)
       a.fault d.fault (log a.reader) (log d.reader)) over h)
 
-  pub served_in_part : (a : Line O (Worker G C) B) (b c : Reads O (Worker G C) W K × Writes B W K)
+  pub served_in_part : (a : Line O (Worker G C) B) (b c : Reads O (Worker G C) P W K × Writes B W K)
       (d : Line O (Worker G C) B) → IsSplit a b → HalvesDid b c → Unit {0} → IsJoined c d
       → LineServed has_ended opened log g_taken writer_ended false a d
   served_in_part a b c d split did none joined = served_as false a b c d split did joined

@@ -10,7 +10,7 @@ use Rattle.gate_serving.specs.declared.line.Worker.{Worker}
 use Rattle.gate_serving.specs.Lines.{LineRead, LineWrittenBy, ReaderLog, reads_of}
 
 -- the halves of a line, before anything was done: they share a slot
-abbrev pub IsSplit : {O A B W K : Type 0} → Line O A B → Reads O A W K × Writes B W K → Type 0
+abbrev pub IsSplit : {O A B P W K : Type 0} → Line O A B → Reads O A P W K × Writes B W K → Type 0
 IsSplit line half =
     (half.0.peer ≡ line.peer) × (half.0.steps ≡ line.steps) × (half.0.opener ≡ line.opener)
     × (half.0.worker ≡ line.reader) × (half.0.all_over ≡ false) × (half.1.worker ≡ line.writer)
@@ -18,14 +18,14 @@ IsSplit line half =
     × (half.1.slot ≡ half.0.slot)
 
 -- the line that two halves are
-abbrev pub IsJoined : {O A B W K : Type 0} → Reads O A W K × Writes B W K → Line O A B → Type 0
+abbrev pub IsJoined : {O A B P W K : Type 0} → Reads O A P W K × Writes B W K → Line O A B → Type 0
 IsJoined half line =
     (line.peer ≡ half.0.peer) × (line.steps ≡ half.0.steps) × (line.opener ≡ half.0.opener)
     × (line.reader ≡ half.0.worker) × (line.writer ≡ half.1.worker) × (line.fault ≡ half.0.fault)
 
 -- what was done of a line's links by its reader
-abbrev pub ReadsDid : {O G C W K : Type 0} → (O → Type 0) → (O → ℕ) → (Worker G C → ReaderLog)
-    → (G → List (List LinkOut)) → (old new : Reads O (Worker G C) W K) → Type 0
+abbrev pub ReadsDid : {O G C P W K : Type 0} → (O → Type 0) → (O → ℕ) → (Worker G C → ReaderLog)
+    → (G → List (List LinkOut)) → (old new : Reads O (Worker G C) P W K) → Type 0
 ReadsDid has_ended opened log was_taken old new =
     (new.peer ≡ old.peer) × (new.steps ≡ old.steps)
     × LineRead (reads_of old.peer) new.all_over (has_ended new.opener) (opened old.opener) (opened new.opener)

@@ -23,13 +23,13 @@ use std::sync::atomic::{AtomicBool, Ordering};
 
 /// What the reading half works with.
 #[derive(Drop)]
-pub(crate) struct Reads<'a, O, A, W, K> {
+pub(crate) struct Reads<'a, O: Opener, A> {
     pub(crate) peer: Recipient,
     pub(crate) steps: u64,
     pub(crate) fault: Option<LinkFault>,
     pub(crate) opener: O,
     pub(crate) worker: A,
-    pub(crate) slot: &'a Slot<W, K>,
+    pub(crate) slot: &'a Slot<O::Writer, O::Closer>,
     /// Whether all links are over: the opener has no further one, and each that it opened was read.
     pub(crate) all_over: bool,
 }
@@ -43,14 +43,14 @@ pub(crate) struct Writes<'a, B, W, K> {
     pub(crate) slot: &'a Slot<W, K>,
 }
 
-impl<'a, O, G, C, W, K> Job for Reads<'a, O, Worker<G, C>, W, K>
+impl<'a, O, G, C> Job for Reads<'a, O, Worker<G, C>>
 where
-    O: Opener<Writer = W, Closer = K> + Drop,
+    O: Opener + Drop,
     O::Reader: Read + Drop,
+    O::Writer: Drop,
+    O::Closer: Drop,
     G: Gate + Drop,
     C: Clock + Drop,
-    W: Drop,
-    K: Drop,
 {
     ghost did = { ReadsDid O.has_ended O.opened (log_of G.was_put C.reported) G.was_taken };
 
@@ -64,14 +64,14 @@ where
     }
 }
 
-impl<'a, O, G, C, W, K> Reads<'a, O, Worker<G, C>, W, K>
+impl<'a, O, G, C> Reads<'a, O, Worker<G, C>>
 where
-    O: Opener<Writer = W, Closer = K>,
+    O: Opener,
     O::Reader: Read + Drop,
+    O::Writer: Drop,
+    O::Closer: Drop,
     G: Gate,
     C: Clock,
-    W: Drop,
-    K: Drop,
 {
     #[tactic(auto, using(crate::proofs::Served::none_yet, crate::proofs::Served::all_read, crate::proofs::Served::read_in_part))]
     /// Opens and reads links, numbered from 1, until the opener has no more (`true`), the flag is set, or the line has
@@ -117,7 +117,7 @@ where
         alloc: Global,
         flag: &AtomicBool,
         link: u64,
-        opened: Opened<O::Reader, W, K>,
+        opened: Opened<O::Reader, O::Writer, O::Closer>,
     ) -> Option<LinkEnd>
         ensures some { IfSome result (λ end. OfAStream (reads_of self.old.peer link end.reader
             (log_of G.was_put C.reported self.old.worker) (log_of G.was_put C.reported self.new.worker))) }

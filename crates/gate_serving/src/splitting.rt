@@ -6,11 +6,15 @@ ghost use Rattle.gate_serving.specs.Halves.{IsJoined, IsSplit};
 
 use crate::halves::{Reads, Writes};
 use crate::line::Line;
+use crate::opener::Opener;
 use crate::slot::Slot;
 use std::alloc::{AllocError, Global};
 
 /// The two halves of a line.
-pub(crate) type Halves<'a, O, A, B, W, K> = (Reads<'a, O, A, W, K>, Writes<'a, B, W, K>);
+pub(crate) type Halves<'a, O, A, B> = (
+    Reads<'a, O, A>,
+    Writes<'a, B, <O as Opener>::Writer, <O as Opener>::Closer>,
+);
 
 /// This many slots, each without a link.
 pub(crate) fn slots_of<W: Drop, K: Drop>(
@@ -27,11 +31,11 @@ pub(crate) fn slots_of<W: Drop, K: Drop>(
 }
 
 /// The halves of the lines, in their order, each with a slot of its own between them. Takes no memory.
-pub(crate) fn split<'a, O: Drop, A: Drop, B: Drop, W: Drop, K: Drop>(
+pub(crate) fn split<'a, O: Opener + Drop, A: Drop, B: Drop>(
     lines: Vec<Line<O, A, B>>,
-    slots: &'a [Slot<W, K>],
-    halves: Vec<Halves<'a, O, A, B, W, K>>,
-) -> Vec<Halves<'a, O, A, B, W, K>>
+    slots: &'a [Slot<O::Writer, O::Closer>],
+    halves: Vec<Halves<'a, O, A, B>>,
+) -> Vec<Halves<'a, O, A, B>>
     requires slots { length slots.now ≡ vec_len lines }
     requires empty { halves.items ≡ [] }
     requires room { vec_len lines ≤ vec_capacity halves }
@@ -63,8 +67,8 @@ pub(crate) fn split<'a, O: Drop, A: Drop, B: Drop, W: Drop, K: Drop>(
 }
 
 /// The lines of the halves, in their order, and whether all links of all lines are over. Takes no memory.
-pub(crate) fn joined<'a, O: Drop, A: Drop, B: Drop, W: Drop, K: Drop>(
-    halves: Vec<Halves<'a, O, A, B, W, K>>,
+pub(crate) fn joined<'a, O: Opener + Drop, A: Drop, B: Drop>(
+    halves: Vec<Halves<'a, O, A, B>>,
     lines: Vec<Line<O, A, B>>,
 ) -> (Vec<Line<O, A, B>>, bool)
     requires empty { lines.items ≡ [] }

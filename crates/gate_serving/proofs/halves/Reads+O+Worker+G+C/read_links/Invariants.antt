@@ -1,7 +1,7 @@
 use Rattle.std.proofs.Common.{◌≡◌, ◌≤◌}
 use Rattle.gate_serving.specs.Lines.{log_of, reads_of}
 use Rattle.gate_serving.proofs.Served.{ReadSoFar}
-use Rattle.gate_serving.proofs.halves.Reads+O+Worker+G+C+W+K.read_links.Given as goal
+use Rattle.gate_serving.proofs.halves.Reads+O+Worker+G+C.read_links.Given as goal
 
 abbrev pub invariant-loop : goal.invariant-loop
 invariant-loop g l = record {

@@ -3,8 +3,8 @@ use Rattle.gate_events.specs.declared.source.Recipient.{Recipient}
 use Rattle.gate_workers.specs.WritersWork.{OfAStream}
 use Rattle.gate_serving.specs.Lines.{log_of, reads_of}
 use Rattle.gate_serving.proofs.Served.{as_many, one_more}
-use Rattle.gate_serving.proofs.halves.Reads+O+Worker+G+C+W+K.read_links.Goals.{in-Err, in-Ok+in-Some-read}
-use Rattle.gate_serving.proofs.halves.Reads+O+Worker+G+C+W+K.read_links.Goals as goal
+use Rattle.gate_serving.proofs.halves.Reads+O+Worker+G+C.read_links.Goals.{in-Err, in-Ok+in-Some-read}
+use Rattle.gate_serving.proofs.halves.Reads+O+Worker+G+C.read_links.Goals as goal
 
 pub loop-preserved : goal.loop-preserved
 loop-preserved g c = elim c.match-tried.branch [
