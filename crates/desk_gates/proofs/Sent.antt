@@ -10,7 +10,6 @@ use Rattle.std.specs.declared.io.Write as Write
 use Rattle.std.proofs.Crossing.{crosses}
 use Rattle.gate_workers.specs.link_io.declared.streams.Prompt as Prompt
 use Rattle.gate_workers.specs.link_io.declared.gate.Gate as Gate
-use Rattle.desk_gates.specs.declared.outlet_writer.OutletEnd as OutletEnd
 use Rattle.gate_workers.proofs.Sent.{shared_writer_sync}
 use Rattle.desk.proofs.Sent.{inlet_send, outlet_send, shared_sync}
 use Rattle.desk.specs.desk_rings.declared.name.DeskName as DeskName
@@ -33,22 +32,22 @@ module _ (K S T : RattleType) (k : DeskName.Ghosts K.Denot) (g : BuildHasher.Gho
     ),
   )
 
-module _ (W G : RattleType) (p : Prompt.Ghosts W.Denot) (w : Write.Ghosts W.Denot) (e : OutletEnd.Ghosts G.Denot)
+module _ (W G : RattleType) (p : Prompt.Ghosts W.Denot) (w : Write.Ghosts W.Denot)
     (t : Gate.Ghosts G.Denot) (sw : IsSend W) (sg : IsSend G) where
-  pub outlet_writer_sync : IsSync (OutletWriter.the_row W G p w e t)
-  outlet_writer_sync = declared_sync (OutletWriter.the_type W G p w e t)
+  pub outlet_writer_sync : IsSync (OutletWriter.the_row W G p w t)
+  outlet_writer_sync = declared_sync (OutletWriter.the_type W G p w t)
       (search (sendable, crosses) depth 40, (search (shared_writer_sync, sw, sg, sendable) depth 40, tt))
 
   module _ (K S T : RattleType) (k : DeskName.Ghosts K.Denot) (g : BuildHasher.Ghosts S.Denot T.Denot)
       (h : Hasher.Ghosts T.Denot) (ss : IsSend S) where
-    outlet_writers_send : (q a : NamedLft) → IsSend (OutletWriters.the_row q a W G K S T p w e t k g h)
+    outlet_writers_send : (q a : NamedLft) → IsSend (OutletWriters.the_row q a W G K S T p w t k g h)
     outlet_writers_send q a = let shared = shared_sync K S T k g h ss in declared_send
-        (OutletWriters.the_type q a W G K S T p w e t k g h)
+        (OutletWriters.the_type q a W G K S T p w t k g h)
         (search (shared, sendable) depth 40, (search (outlet_writer_sync, sendable, crosses) depth 40, tt))
 
-    pub inlet_gate_send : (q a : NamedLft) → IsSend (InletGate.the_row q a W G K S T p w e t k g h)
+    pub inlet_gate_send : (q a : NamedLft) → IsSend (InletGate.the_row q a W G K S T p w t k g h)
     inlet_gate_send q a = let shared = shared_sync K S T k g h ss in declared_send
-        (InletGate.the_type q a W G K S T p w e t k g h) (
+        (InletGate.the_type q a W G K S T p w t k g h) (
           search (shared, sendable) depth 40,
           (
             search (outlet_writers_send, sendable) depth 40,

@@ -1,9 +1,9 @@
 //! A reader's handle to the desk.
 
-use crate::outlet_writer::{OutletEnd, OutletWriter};
+use crate::outlet_writer::OutletWriter;
 use crate::outlet_writers::OutletWriters;
 use desk::{DeskName, Finished, Inlet, Shared};
-use gate_events::{Event, LinkOut, ShortList};
+use gate_events::{Event, LinkOut, Recipient, ShortList};
 use link_io::{Gate, Prompt};
 use std::alloc::{AllocError, Global};
 use std::hash::{BuildHasher, BuildHasherDefault, FoldHasher};
@@ -20,7 +20,7 @@ pub struct InletGate<
     'p,
     'a,
     W: Prompt + Drop,
-    G: OutletEnd + Drop,
+    G: Gate + Drop,
     K: DeskName,
     S: BuildHasher + Drop = BuildHasherDefault<FoldHasher>,
 > {
@@ -31,7 +31,7 @@ pub struct InletGate<
     owed: u32,
 }
 
-impl<'p, 'a, W: Prompt + Drop, G: OutletEnd + Drop, K: DeskName, S: BuildHasher + Drop> InletGate<
+impl<'p, 'a, W: Prompt + Drop, G: Gate + Drop, K: DeskName, S: BuildHasher + Drop> InletGate<
     'p,
     'a,
     W,
@@ -72,16 +72,23 @@ impl<'p, 'a, W: Prompt + Drop, G: OutletEnd + Drop, K: DeskName, S: BuildHasher 
     }
 }
 
-impl<'p, 'a, W: Prompt + Drop, G: OutletEnd + Drop, K: DeskName, S: BuildHasher + Drop> Gate
+impl<'p, 'a, W: Prompt + Drop, G: Gate + Drop, K: DeskName, S: BuildHasher + Drop> Gate
     for InletGate<'p, 'a, W, G, K, S> {
-    ghost use Rattle.std.specs.Prelude.{[], map};
+    ghost use Rattle.std.specs.Prelude.{[], None, map};
     ghost use Rattle.gate_events.specs.Seen.{event_seen};
 
     ghost was_put = { λ g. map event_seen g.inlet.put };
 
     ghost was_taken = { λ g. [] };
 
+    ghost output_for = { λ _. None };
+
     ghost gave_back = { λ _. Unit {0} };
+
+    /// Nothing comes out of an inlet.
+    fn recipient(&self) -> Option<Recipient> {
+        None
+    }
 
     /// Puts an event of its inlet's source. One of another source is given back, always.
     fn put(&mut self, event: Event) -> Result<(), Event> {

@@ -10,5 +10,5 @@ mod waker;
 
 pub use inlet::InletGate;
 pub use outlet::OutletGate;
-pub use outlet_writer::{OutletEnd, OutletWriter};
+pub use outlet_writer::OutletWriter;
 pub use waker::WakerClock;

@@ -2,7 +2,6 @@
 
 ghost use Rattle.desk_gates.specs.Since.{Earlier};
 
-use crate::outlet_writer::OutletEnd;
 use desk::{DeskName, Finished, Outlet, Recipient, Shared, more_places};
 use gate_events::{Event, LinkOut, ShortList};
 use link_io::Gate;
@@ -74,14 +73,20 @@ impl<'a, K: DeskName, S: BuildHasher + Drop> OutletGate<'a, K, S> {
 }
 
 impl<'a, K: DeskName, S: BuildHasher + Drop> Gate for OutletGate<'a, K, S> {
-    ghost use Rattle.std.specs.Prelude.{[]};
+    ghost use Rattle.std.specs.Prelude.{[], Some};
     ghost use Rattle.desk_gates.specs.Since.{took_since};
 
     ghost was_put = { λ g. [] };
 
     ghost was_taken = { λ g. took_since g.first.value g.outlet };
 
+    ghost output_for = { λ g. Some g.outlet.to };
+
     ghost gave_back = { λ _. Unit {0} };
+
+    fn recipient(&self) -> Option<Recipient> {
+        Some(self.outlet.recipient())
+    }
 
     /// An outlet takes no event: it is always given back.
     fn put(&mut self, event: Event) -> Result<(), Event> {
@@ -124,13 +129,5 @@ impl<'a, K: DeskName, S: BuildHasher + Drop> Gate for OutletGate<'a, K, S> {
     /// Whether so many lists lie in its outlet's queue that what its market says waits for room.
     fn holds_up_others(&mut self) -> bool {
         self.outlet.queued() >= HELD
-    }
-}
-
-impl<'a, K: DeskName, S: BuildHasher + Drop> OutletEnd for OutletGate<'a, K, S> {
-    ghost output_for = { λ g. g.outlet.to };
-
-    fn recipient(&self) -> Recipient {
-        self.outlet.recipient()
     }
 }

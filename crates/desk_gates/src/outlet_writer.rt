@@ -7,27 +7,16 @@ use gate_workers::SharedWriter;
 use link_io::{Gate, Prompt};
 use std::alloc::Global;
 
-/// A handle from which one client's or port's output is taken.
-pub trait OutletEnd: Gate {
-    ghost use Rattle.gate_events.specs.declared.source.Recipient.{Recipient as Addressee};
-
-    ghost output_for: { Self → Addressee };
-
-    /// Whose output it is.
-    fn recipient(&self) -> Recipient
-        ensures { result ≡ output_for self.now };
-}
-
 /// The shared writer of an outlet's client or port.
 #[derive(Drop)]
-pub struct OutletWriter<W: Prompt + Drop, G: OutletEnd + Drop> {
+pub struct OutletWriter<W: Prompt + Drop, G: Gate + Drop> {
     /// Whose output it writes.
-    to: Recipient,
+    to: Option<Recipient>,
     shared_writer: SharedWriter<W, G>,
     ghost own: { G.output_for shared_writer.first.value ≡ to },
 }
 
-impl<W: Prompt + Drop, G: OutletEnd + Drop> OutletWriter<W, G> {
+impl<W: Prompt + Drop, G: Gate + Drop> OutletWriter<W, G> {
     /// The shared writer over a handle from which nothing was taken. Takes no memory.
     pub fn new(gate: G) -> OutletWriter<W, G>
         requires fresh { G.was_taken gate ≡ [] }
@@ -38,8 +27,8 @@ impl<W: Prompt + Drop, G: OutletEnd + Drop> OutletWriter<W, G> {
         OutletWriter { to, shared_writer }
     }
 
-    /// Whose output it writes.
-    pub fn recipient(&self) -> Recipient
+    /// Whose output it writes; `None` where its handle is nobody's.
+    pub fn recipient(&self) -> Option<Recipient>
         ensures { result ≡ self.now.to }
     {
         self.to

@@ -1,8 +1,8 @@
 //! All connections' writers: the thread that stepped the core writes through them.
 
-use crate::outlet_writer::{OutletEnd, OutletWriter};
+use crate::outlet_writer::OutletWriter;
 use desk::{DeskName, OutletSet, Shared, WriteOutput};
-use link_io::Prompt;
+use link_io::{Gate, Prompt};
 use std::alloc::Global;
 use std::hash::{BuildHasher, BuildHasherDefault, FoldHasher};
 
@@ -12,7 +12,7 @@ pub(crate) struct OutletWriters<
     'p,
     'a,
     W: Prompt + Drop,
-    G: OutletEnd + Drop,
+    G: Gate + Drop,
     K: DeskName,
     S: BuildHasher + Drop = BuildHasherDefault<FoldHasher>,
 > {
@@ -20,14 +20,14 @@ pub(crate) struct OutletWriters<
     outlet_writers: &'p [OutletWriter<W, G>],
 }
 
-impl<
+impl<'p, 'a, W: Prompt + Drop, G: Gate + Drop, K: DeskName, S: BuildHasher + Drop> OutletWriters<
     'p,
     'a,
-    W: Prompt + Drop,
-    G: OutletEnd + Drop,
-    K: DeskName,
-    S: BuildHasher + Drop,
-> OutletWriters<'p, 'a, W, G, K, S> {
+    W,
+    G,
+    K,
+    S,
+> {
     /// The writers of the outlets of this desk.
     pub(crate) fn new(
         shared: &'a Shared<K, S>,
@@ -40,7 +40,7 @@ impl<
     }
 }
 
-impl<'p, 'a, W: Prompt + Drop, G: OutletEnd + Drop, K: DeskName, S: BuildHasher + Drop> WriteOutput
+impl<'p, 'a, W: Prompt + Drop, G: Gate + Drop, K: DeskName, S: BuildHasher + Drop> WriteOutput
     for OutletWriters<'p, 'a, W, G, K, S> {
     /// Writes the output of these outlets, by one prompt write each, the last outlet first: ports stand behind clients,
     /// and a market waits for what its port is sent. If a writer is held, or not all could be written, the outlet is

@@ -1,6 +1,6 @@
 -- What holds of each of a list's elements.
-use Rattle.std.proofs.Common.{◌≡◌, refl, subst, sym, All, ℕ, Bool, true, false, List, [], ◌∷◌, ◌++◌}
-use Rattle.std.specs.Prelude.{Some, if◌then◌else◌, slice_get}
+use Rattle.std.proofs.Common.{◌≡◌, ap, refl, subst, sym, All, ℕ, Bool, true, false, List, [], ◌∷◌, ◌++◌}
+use Rattle.std.specs.Prelude.{None, Option, Some, if◌then◌else◌, slice_get}
 use Rattle.std.proofs.lemmas.List.Elements.{All-push}
 use Rattle.std.proofs.lemmas.Option.{slice_get-get_or}
 
@@ -13,3 +13,12 @@ pushed false old new x e P all one = subst (All P) (sym e) all
 -- where it holds of the one at each position
 pub at_each : {A : Type 0} (P : A → Type 0) (xs : List A) → ((d : ℕ) (x : A) → slice_get xs d ≡ Some x → P x) → All P xs
 at_each P xs each = λ k d inside. each k _ (slice_get-get_or xs k d inside)
+
+-- the one of an option, or this
+abbrev one_or : {A : Type 0} → A → Option A → A
+one_or x None = x
+one_or x (Some y) = y
+
+-- two options of one
+pub one_of : {A : Type 0} {x y : A} → Some x ≡ Some y → x ≡ y
+one_of {x = x} e = ap (one_or x) e

@@ -7,7 +7,13 @@ use denote.Param.SendFields.{declared_send}
 use Rattle.std.proofs.Crossing.{crosses}
 use Rattle.std.specs.declared.hash.BuildHasher as BuildHasher
 use Rattle.std.specs.declared.hash.Hasher as Hasher
+use Rattle.std.specs.declared.io.Write as Write
+use Rattle.link_io.specs.declared.gate.Gate as Gate
+use Rattle.link_io.specs.declared.streams.Prompt as Prompt
 use Rattle.desk_gates.proofs.desk.Sent.{shared_sync}
+use Rattle.desk_gates.proofs.Sent.{inlet_gate_send, outlet_gate_send}
+use Rattle.desk_gates.specs.contracts.inlet.InletGate as InletGate
+use Rattle.desk_gates.specs.contracts.outlet.OutletGate as OutletGate
 use Rattle.gateway_watch.proofs.Sent.{board_sync}
 use Rattle.desk_gates.specs.desk.declared.DeskName as DeskName
 use Rattle.desk_gates.specs.contracts.waker.WakerClock as WakerClock
@@ -156,3 +162,16 @@ pub opener_send : (a b : NamedLft) (A C K R : RattleType) (k : DeskName.Ghosts K
 opener_send a b A C K R k s c r = let O = RunOpener.the_type (CountedLinks.the_row a A) (PortLinks.the_row b C K R k) in
     recorded_send _ _ _ O.to_one (enum_send (E.shape O)
     (search (counted_send a A s, port_links_send b K R k r C c, sendable) depth 40))
+
+-- the gates of a line's writer, and of its reader or of the ticker
+module _ (R : RattleType) (r : IsSync R) (K S T : RattleType) (k : DeskName.Ghosts K.Denot)
+    (g : BuildHasher.Ghosts S.Denot T.Denot) (h : Hasher.Ghosts T.Denot) (s : IsSend S) where
+  pub writing_gate_send : (a b : NamedLft) → IsSend (LoggedGate.the_row a (OutletGate.the_row b K S T k g h) R)
+  writing_gate_send a b =
+      logged_gate_send a R r (OutletGate.the_row b K S T k g h) (outlet_gate_send K S T k g h s b)
+
+  pub reading_gate_send : (a b q : NamedLft) (W G : RattleType) (p : Prompt.Ghosts W.Denot)
+      (w : Write.Ghosts W.Denot) (t : Gate.Ghosts G.Denot) → IsSend W → IsSend G
+      → IsSend (RunGate.the_row a (InletGate.the_row q b W G K S T p w t k g h) K R k)
+  reading_gate_send a b q W G p w t sw sg = run_gate_send a K R k r (InletGate.the_row q b W G K S T p w t k g h)
+      (inlet_gate_send W G p w t sw sg K S T k g h s q b)

@@ -1,18 +1,15 @@
 //! The ends of a desk, as lines that threads serve.
 
-ghost use Rattle.std.specs.Prelude.{◌≡◌, All, true};
+ghost use Rattle.std.specs.Prelude.{◌≡◌, All, Some, true};
 ghost use Rattle.gateway_run.specs.Own.{source_of_peer};
 
 use crate::context::Context;
-use crate::counted::CountedLinks;
-use crate::lines::{RunLine, line_of, link_log_of};
-use crate::port_faults::PortLinks;
+use crate::lines::{RunLine, RunWriter, line_of, link_log_of};
 use crate::run_gate::RunGate;
-use crate::run_opener::RunOpener;
-use desk_gates::{InletGate, OutletEnd, OutletWriter};
+use desk_gates::{InletGate, OutletWriter};
 use desk_rings::{DeskName, Inlet};
 use gate_events::{Recipient, Source};
-use link_io::Prompt;
+use link_io::{Gate, Prompt};
 use std::alloc::{AllocError, Global};
 use std::sync::Wait;
 use std::sync::atomic::AtomicU8;
@@ -41,25 +38,23 @@ pub struct LinkRules {
 /// The lines of a desk's clients and of its ports, in this order. Its type keeps that each puts the events of its own
 /// client or port, and takes what that is told.
 #[derive(Drop)]
-pub(crate) struct Ends<'p, 'a, W: Prompt + Drop, G: OutletEnd + Drop, A, C, K: DeskName, R> {
+pub(crate) struct Ends<'p, 'a, W: Prompt + Drop, O, K: DeskName, R: Wait + Clock + Eprint> {
     rules: LinkRules,
-    pub(crate) lines: Vec<RunLine<'p, 'a, W, G, A, C, K, R>>,
+    pub(crate) lines: Vec<RunLine<'p, 'a, W, O, K, R>>,
     ghost puts_own: { All (λ l. l.reader.gate.gate.inlet.source ≡ source_of_peer l.peer) lines.items },
-    ghost takes_own: { All (λ l. G.output_for l.writer.shared_writer.now.first.value ≡ l.peer) lines.items },
+    ghost takes_own: { All (λ l. l.writer.shared_writer.now.first.value.gate.outlet.to ≡ l.peer) lines.items },
 }
 
-impl<
+impl<'p, 'a, W: Prompt + Drop, O: Drop, K: DeskName, R: Wait + Clock + Eprint> Ends<
     'p,
     'a,
-    W: Prompt + Drop,
-    G: OutletEnd + Drop,
-    A: Drop,
-    C: Drop,
-    K: DeskName,
-    R: Wait + Clock + Eprint,
-> Ends<'p, 'a, W, G, A, C, K, R> {
+    W,
+    O,
+    K,
+    R,
+> {
     /// No line yet.
-    fn new(alloc: Global, rules: LinkRules) -> Ends<'p, 'a, W, G, A, C, K, R> {
+    fn new(alloc: Global, rules: LinkRules) -> Ends<'p, 'a, W, O, K, R> {
         Ends {
             rules,
             lines: Vec::new(alloc),
@@ -71,16 +66,16 @@ impl<
         &mut self,
         context: &Context<'a, K, R>,
         peer: Recipient,
-        opener: RunOpener<CountedLinks<'a, A>, PortLinks<'a, C, K, R>>,
+        opener: O,
         inlet: Inlet<K>,
-        outlet_writers: &'p [OutletWriter<W, G>],
-        outlet_writer: &'p OutletWriter<W, G>,
+        outlet_writers: &'p [RunWriter<'a, W, K, R>],
+        outlet_writer: &'p RunWriter<'a, W, K, R>,
     ) -> Result<(), AllocError> {
         if is_of(&inlet, source_of(&peer)) && is_to(outlet_writer, &peer) {
             let at = inlet.position();
             let link_log = link_log_of(context.rt, self.rules.logs_frames, &peer);
             let own = InletGate::new(context.shared, outlet_writers, inlet);
-            let gate = RunGate::new(context, own, link_log, letter_of(&opener));
+            let gate = RunGate::new(context, own, link_log, letter_of(context, &peer));
             let line = line_of(context, peer, opener, gate, at, outlet_writer);
             return self.keep(line);
         }
@@ -88,9 +83,9 @@ impl<
     }
 
     /// Adds a line that is over its own ends.
-    fn keep(&mut self, line: RunLine<'p, 'a, W, G, A, C, K, R>) -> Result<(), AllocError>
+    fn keep(&mut self, line: RunLine<'p, 'a, W, O, K, R>) -> Result<(), AllocError>
         requires puts_own { line.reader.gate.gate.inlet.source ≡ source_of_peer line.peer }
-        requires takes_own { G.output_for line.writer.shared_writer.now.first.value ≡ line.peer }
+        requires takes_own { line.writer.shared_writer.now.first.value.gate.outlet.to ≡ line.peer }
     {
         self.lines.push(line)?;
         Ok(())
@@ -98,12 +93,13 @@ impl<
 }
 
 /// Where the letter of a login that a port's market rejects is kept; of a client nowhere.
-fn letter_of<'a, A, C, K: DeskName, R: Wait + Clock + Eprint>(
-    opener: &RunOpener<A, PortLinks<'a, C, K, R>>,
+fn letter_of<'a, K: DeskName, R>(
+    context: &Context<'a, K, R>,
+    peer: &Recipient,
 ) -> Option<&'a AtomicU8> {
-    match opener {
-        RunOpener::Client(_) => None,
-        RunOpener::Port(links) => links.letter(),
+    match peer {
+        Recipient::Client(_) => None,
+        Recipient::Port(port) => context.states.letter_of(port.number()),
     }
 }
 
@@ -125,49 +121,38 @@ fn is_of<K: DeskName>(inlet: &Inlet<K>, source: Source) -> bool
 }
 
 /// Whether an outlet's writer writes what this one is told.
-fn is_to<W: Prompt + Drop, G: OutletEnd + Drop>(
+fn is_to<W: Prompt + Drop, G: Gate + Drop>(
     outlet_writer: &OutletWriter<W, G>,
     recipient: &Recipient,
 ) -> bool
-    ensures { result ≡ true → outlet_writer.now.to ≡ recipient.now }
+    ensures { result ≡ true → outlet_writer.now.to ≡ Some recipient.now }
 {
-    outlet_writer.recipient() == *recipient
+    outlet_writer.recipient() == Some(*recipient)
 }
 
 /// Lines over the inlets and the outlets' writers of a desk: each inlet of a client or port with the writer at its
 /// position.
-pub(crate) fn ends_of<
-    'p,
-    'a,
-    W: Prompt + Drop,
-    G: OutletEnd + Drop,
-    A: Drop,
-    C: Drop,
-    K: DeskName,
-    R: Wait + Clock + Eprint,
->(
+pub(crate) fn ends_of<'p, 'a, W: Prompt + Drop, O: Drop, K: DeskName, R: Wait + Clock + Eprint>(
     context: &Context<'a, K, R>,
     inlets: Vec<Inlet<K>>,
-    outlet_writers: &'p [OutletWriter<W, G>],
-    clients: Vec<CountedLinks<'a, A>>,
-    ports: Vec<PortLinks<'a, C, K, R>>,
+    outlet_writers: &'p [RunWriter<'a, W, K, R>],
+    clients: Vec<O>,
+    ports: Vec<O>,
     rules: LinkRules,
-) -> Result<Ends<'p, 'a, W, G, A, C, K, R>, AllocError> {
+) -> Result<Ends<'p, 'a, W, O, K, R>, AllocError> {
     let mut accepting = clients.into_iter();
     let mut connecting = ports.into_iter();
     let mut ends = Ends::new(context.alloc, rules);
     for (inlet, outlet_writer) in inlets.into_iter().zip(outlet_writers) {
         match inlet.source() {
             Source::Client(client) => {
-                if let Some(links) = accepting.next() {
-                    let opener = RunOpener::Client(links);
+                if let Some(opener) = accepting.next() {
                     let peer = Recipient::Client(client);
                     ends.add(context, peer, opener, inlet, outlet_writers, outlet_writer)?;
                 }
             }
             Source::Port(port) => {
-                if let Some(links) = connecting.next() {
-                    let opener = RunOpener::Port(links);
+                if let Some(opener) = connecting.next() {
                     let peer = Recipient::Port(port);
                     ends.add(context, peer, opener, inlet, outlet_writers, outlet_writer)?;
                 }

@@ -1,24 +1,21 @@
 //! The lines of a gateway, over the ends of its desk.
 
-ghost use Rattle.std.specs.Prelude.{◌≡◌, All, [], None, IfSome};
+ghost use Rattle.std.specs.Prelude.{◌≡◌, All, [], None, Some, IfSome};
 ghost use Rattle.gate_events.specs.declared.source.Source.TheVariants as sources;
 
 use crate::clock::RunClock;
 use crate::context::Context;
-use crate::counted::CountedLinks;
 use crate::link_log::{LinkLog, Whose};
 use crate::logged_gate::LoggedGate;
-use crate::port_faults::PortLinks;
 use crate::run_gate::RunGate;
-use crate::run_opener::RunOpener;
 use crate::sync_timer::SyncTimer;
 use desk::Shared;
-use desk_gates::{InletGate, OutletEnd, OutletGate, OutletWriter, WakerClock};
+use desk_gates::{InletGate, OutletGate, OutletWriter, WakerClock};
 use desk_rings::{DeskName, Finished, Inlet, Outlet};
 use gate_events::{Recipient, Source};
 use gate_serving::{Line, Ticks, Worker, WriterWorker};
 use journal_log::LaterSync;
-use link_io::{LinkFault, Prompt};
+use link_io::{Gate, LinkFault, Prompt};
 use std::alloc::{AllocError, Global};
 use std::hash::RandomState;
 use std::sync::Wait;
@@ -32,46 +29,47 @@ fn longest_sleep() -> Duration {
     Duration::from_millis(10)
 }
 
+/// The gate of a writer over an outlet.
+pub(crate) type WritingGate<'a, K, R> = LoggedGate<'a, OutletGate<'a, K, RandomState>, R>;
+
+/// The writer of an outlet.
+pub(crate) type RunWriter<'a, W, K, R> = OutletWriter<W, WritingGate<'a, K, R>>;
+
 /// The gate of a reader, or of the ticker, over an inlet.
-pub(crate) type ReadingGate<'p, 'a, W, G, K, R> = RunGate<
+pub(crate) type ReadingGate<'p, 'a, W, K, R> = RunGate<
     'a,
-    InletGate<'p, 'a, W, G, K, RandomState>,
+    InletGate<'p, 'a, W, WritingGate<'a, K, R>, K, RandomState>,
     K,
     R,
 >;
 
-/// The gate of a writer over an outlet.
-pub(crate) type WritingGate<'a, K, R> = LoggedGate<'a, OutletGate<'a, K, RandomState>, R>;
-
-/// A line of a gateway.
-pub(crate) type RunLine<'p, 'a, W, G, A, C, K, R> = Line<
-    RunOpener<CountedLinks<'a, A>, PortLinks<'a, C, K, R>>,
-    Worker<ReadingGate<'p, 'a, W, G, K, R>, RunClock<'a, K, R>>,
-    WriterWorker<'p, W, G, WakerClock<'a, K, R, RandomState>>,
+/// A line of a gateway, whose links come from an opener.
+pub(crate) type RunLine<'p, 'a, W, O, K, R> = Line<
+    O,
+    Worker<ReadingGate<'p, 'a, W, K, R>, RunClock<'a, K, R>>,
+    WriterWorker<'p, W, WritingGate<'a, K, R>, WakerClock<'a, K, R, RandomState>>,
 >;
 
 /// The ticks of a gateway.
-pub(crate) type RunTicks<'p, 'a, W, G, K, R> = Ticks<
+pub(crate) type RunTicks<'p, 'a, W, K, R> = Ticks<
     'a,
-    ReadingGate<'p, 'a, W, G, K, R>,
+    ReadingGate<'p, 'a, W, K, R>,
     RunClock<'a, K, R>,
 >;
 
 /// The line of a client or port over the gate of its inlet and the writer of its outlet, both at this position.
-pub(crate) fn line_of<'p, 'a, W: Prompt + Drop, G: OutletEnd + Drop, A, C, K, R>(
+pub(crate) fn line_of<'p, 'a, W: Prompt + Drop, O, K: DeskName, R: Wait + Clock + Eprint>(
     context: &Context<'a, K, R>,
     peer: Recipient,
-    opener: RunOpener<CountedLinks<'a, A>, PortLinks<'a, C, K, R>>,
-    gate: ReadingGate<'p, 'a, W, G, K, R>,
+    opener: O,
+    gate: ReadingGate<'p, 'a, W, K, R>,
     at: usize,
-    outlet_writer: &'p OutletWriter<W, G>,
-) -> RunLine<'p, 'a, W, G, A, C, K, R>
-where
-    K: DeskName,
-    R: Wait + Clock + Eprint,
+    outlet_writer: &'p RunWriter<'a, W, K, R>,
+) -> RunLine<'p, 'a, W, O, K, R>
     ensures peer { result.peer ≡ peer }
     ensures gate { result.reader.gate ≡ gate.entry }
-    ensures shared_writer { G.output_for result.writer.shared_writer.now.first.value ≡ outlet_writer.now.to }
+    ensures shared_writer { Some result.writer.shared_writer.now.first.value.gate.outlet.to
+        ≡ outlet_writer.now.to }
     ensures fault { result.fault ≡ None }
 {
     Line {
@@ -92,15 +90,12 @@ where
 
 /// Ticks for each client and port through the clock's inlet, where they are due, until the day is over, how all stand
 /// onto the board, and a journal's later syncs. None through another's inlet.
-pub(crate) fn ticks_of<'p, 'a, W: Prompt + Drop, G: OutletEnd + Drop, K, R>(
+pub(crate) fn ticks_of<'p, 'a, W: Prompt + Drop, K: DeskName, R: Wait + Clock + Eprint>(
     context: &Context<'a, K, R>,
     inlet: Inlet<K>,
-    outlet_writers: &'p [OutletWriter<W, G>],
+    outlet_writers: &'p [RunWriter<'a, W, K, R>],
     syncs: Option<SyncTimer<LaterSync>>,
-) -> Option<RunTicks<'p, 'a, W, G, K, R>>
-where
-    K: DeskName,
-    R: Wait + Clock + Eprint,
+) -> Option<RunTicks<'p, 'a, W, K, R>>
     ensures own { IfSome result (λ ticks. ticks.gate.gate.inlet.source ≡ sources.Clock) }
 {
     if inlet.source() == Source::Clock {
@@ -140,9 +135,9 @@ impl<K: DeskName> Left<K> {
     }
 
     /// Ends the inlets of lines, and keeps what was put, and the first fault.
-    pub(crate) fn end_lines<'p, 'a, W: Prompt + Drop, G: OutletEnd + Drop, A: Drop, C: Drop, R>(
+    pub(crate) fn end_lines<'p, 'a, W: Prompt + Drop, O: Drop, R: Wait + Clock + Eprint>(
         &mut self,
-        lines: Vec<RunLine<'p, 'a, W, G, A, C, K, R>>,
+        lines: Vec<RunLine<'p, 'a, W, O, K, R>>,
     ) -> Result<(), AllocError> {
         for line in lines {
             let Line { fault, reader, .. } = line;
@@ -153,9 +148,9 @@ impl<K: DeskName> Left<K> {
     }
 
     /// Ends the inlet of ticks, and keeps what was put.
-    pub(crate) fn end_ticks<'p, 'a, W: Prompt + Drop, G: OutletEnd + Drop, R>(
+    pub(crate) fn end_ticks<'p, 'a, W: Prompt + Drop, R: Wait + Clock + Eprint>(
         &mut self,
-        ticks: Option<RunTicks<'p, 'a, W, G, K, R>>,
+        ticks: Option<RunTicks<'p, 'a, W, K, R>>,
     ) -> Result<(), AllocError> {
         let Some(ticks) = ticks else {
             return Ok(());
@@ -165,7 +160,7 @@ impl<K: DeskName> Left<K> {
     }
 
     /// Ends the inlet of a gate, and keeps what was put.
-    fn end_inlet<W: Prompt + Drop, G: OutletEnd + Drop>(
+    fn end_inlet<W: Prompt + Drop, G: Gate + Drop>(
         &mut self,
         gate: InletGate<'_, '_, W, G, K, RandomState>,
     ) -> Result<(), AllocError> {
@@ -178,7 +173,7 @@ impl<K: DeskName> Left<K> {
     /// Ends the outlets of writers, and keeps what was taken. One whose link isn't over is let go.
     pub(crate) fn end_outlets<'a, W: Prompt + Drop, R: Clock + Eprint>(
         &mut self,
-        outlet_writers: Vec<OutletWriter<W, WritingGate<'a, K, R>>>,
+        outlet_writers: Vec<RunWriter<'a, W, K, R>>,
     ) -> Result<(), AllocError> {
         for outlet_writer in outlet_writers {
             if let Some(gate) = outlet_writer.into_gate() {
@@ -196,7 +191,7 @@ pub(crate) fn outlet_writers_of<'a, W: Prompt + Drop, K: DeskName, R: Clock + Ep
     shared: &'a Shared<K, RandomState>,
     outlets: Vec<Outlet<K>>,
     logs_frames: bool,
-) -> Result<Vec<OutletWriter<W, WritingGate<'a, K, R>>>, AllocError> {
+) -> Result<Vec<RunWriter<'a, W, K, R>>, AllocError> {
     let mut outlet_writers = Vec::with_capacity(alloc, outlets.len())?;
     for outlet in outlets {
         let link_log = frame_log_of(rt, logs_frames, &outlet.recipient());

@@ -2,7 +2,6 @@
 //! those that refuse a message, ask for messages again or end a session.
 
 use crate::link_log::LinkLog;
-use desk_gates::OutletEnd;
 use fix_fields::SOH;
 use fix_framing::front_body;
 use gate_events::{Event, LinkOut, Recipient, ShortList};
@@ -51,7 +50,13 @@ impl<'a, G: Gate, R: Clock + Eprint> Gate for LoggedGate<'a, G, R> {
 
     ghost was_taken = { λ t. G.was_taken t.gate };
 
+    ghost output_for = { λ t. G.output_for t.gate };
+
     ghost gave_back = { λ _. Unit {0} };
+
+    fn recipient(&self) -> Option<Recipient> {
+        self.gate.recipient()
+    }
 
     fn put(&mut self, event: Event) -> Result<(), Event> {
         self.gate.put(event)
@@ -73,14 +78,6 @@ impl<'a, G: Gate, R: Clock + Eprint> Gate for LoggedGate<'a, G, R> {
         if let Some(link_log) = &self.link_log {
             log_frames(link_log, self.alloc, frames);
         }
-    }
-}
-
-impl<'a, G: OutletEnd, R: Clock + Eprint> OutletEnd for LoggedGate<'a, G, R> {
-    ghost output_for = { λ t. G.output_for t.gate };
-
-    fn recipient(&self) -> Recipient {
-        self.gate.recipient()
     }
 }
 

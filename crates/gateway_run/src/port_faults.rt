@@ -69,11 +69,6 @@ impl<'a, C, K: DeskName, R: Wait + Clock + Eprint> PortLinks<'a, C, K, R> {
         }
     }
 
-    /// Where the letter of a login that is rejected is kept.
-    pub(crate) fn letter(&self) -> Option<&'a AtomicU8> {
-        self.letter
-    }
-
     /// Tells why there is no further link, where there is none and that wasn't reported.
     fn look(&mut self)
         ensures { self.new.opener ≡ self.old.opener }

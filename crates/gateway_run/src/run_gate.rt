@@ -9,7 +9,7 @@ use desk_rings::DeskName;
 use desk_steps::Status;
 use fix_fields::Fields;
 use fix_session::LogonFault;
-use gate_events::{ClientNumber, Event, LinkOut, ShortList};
+use gate_events::{ClientNumber, Event, LinkOut, Recipient, ShortList};
 use gateway_watch::{Resends, Standstill, TooMuch, asked_for, range_of};
 use link_io::Gate;
 use soup_packets::Packet;
@@ -196,7 +196,13 @@ impl<'a, G: Gate, K: DeskName, R: Wait + Clock + Eprint> Gate for RunGate<'a, G,
 
     ghost was_taken = { λ t. G.was_taken t.gate };
 
+    ghost output_for = { λ t. G.output_for t.gate };
+
     ghost gave_back = { λ _. Unit {0} };
+
+    fn recipient(&self) -> Option<Recipient> {
+        self.gate.recipient()
+    }
 
     /// Puts an event; a tick only where it is due, once the desk could be had, and none by which a client asks for too
     /// much again.

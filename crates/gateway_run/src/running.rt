@@ -9,13 +9,13 @@ ghost use Rattle.desk_gates.specs.desk.Settling.{AreSettled};
 use crate::context::{Context, Layout};
 use crate::counted::{CountedLinks, LinkStates};
 use crate::ends::{Ends, LinkRules, RunPlan, ends_of};
-use crate::lines::{Left, outlet_writers_of, ticks_of};
+use crate::lines::{Left, RunWriter, outlet_writers_of, ticks_of};
 use crate::order_watch::ports_of_clients;
 use crate::port_faults::PortLinks;
 use crate::resuming::go_on;
+use crate::run_opener::RunOpener;
 use crate::sync_timer::SyncTimer;
 use desk::{Parts, Shared, open_desk};
-use desk_gates::{OutletEnd, OutletWriter};
 use desk_rings::{DeskName, Finished, Inlet};
 use desk_steps::Closed;
 use gate_serving::{Closer, Opener, serve};
@@ -174,10 +174,10 @@ fn close_desk<K: DeskName, R: Clock>(
 
 /// Serves the ends of a desk, the last inlet being the clock's, until the clients' links have been served, and ends
 /// them. Time passes in the calling thread, which has the journal synced where that is left for later.
-fn serve_desk<'p, 'a, K, R, A, C, G>(
+fn serve_desk<'p, 'a, K, R, A, C>(
     context: &Context<'a, K, R>,
     inlets: Vec<Inlet<K>>,
-    outlet_writers: &'p [OutletWriter<A::Writer, G>],
+    outlet_writers: &'p [RunWriter<'a, A::Writer, K, R>],
     plan: RunPlan<A, C>,
     syncs: Option<SyncTimer<LaterSync>>,
 ) -> Result<Left<K>, RunFault>
@@ -189,7 +189,6 @@ where
     A::Writer: Prompt + Send + Drop,
     A::Closer: Closer + Send + Drop,
     C: Opener<Reader = A::Reader, Writer = A::Writer, Closer = A::Closer> + Send + Drop,
-    G: OutletEnd + Send + Drop,
     requires clock { 0 < length inlets.items }
 {
     let mut left = Left::with_room(context.alloc, inlets.len(), outlet_writers.len())?;
@@ -202,8 +201,8 @@ where
         ports,
         rules,
     } = plan;
-    let clients = counted(context, clients)?;
-    let ports = left_alone(context, ports, rules)?;
+    let clients = counted::<A, C, K, R>(context, clients)?;
+    let ports = left_alone::<A, C, K, R>(context, ports, rules)?;
     let ends = ends_of(context, inlets, outlet_writers, clients, ports, rules)?;
     let Ends { lines, .. } = ends;
     let ticks = ticks_of(context, clock, outlet_writers, syncs);
@@ -217,29 +216,34 @@ where
     Ok(left)
 }
 
+/// Where the links of a line come from: those of a client, or of a port.
+type Links<'a, A, C, K, R> = RunOpener<CountedLinks<'a, A>, PortLinks<'a, C, K, R>>;
+
 /// The links of clients, counted.
-fn counted<'a, A: Drop, K: DeskName, R>(
+fn counted<'a, A: Drop, C: Drop, K: DeskName, R>(
     context: &Context<'a, K, R>,
     openers: Vec<A>,
-) -> Result<Vec<CountedLinks<'a, A>>, AllocError> {
+) -> Result<Vec<Links<'a, A, C, K, R>>, AllocError> {
     let counts = &context.states.clients;
     let mut links = Vec::with_capacity(context.alloc, openers.len())?;
     for opener in openers {
-        links.push(CountedLinks::new(opener, counts, context.is_over))?;
+        let counted = CountedLinks::new(opener, counts, context.is_over);
+        links.push(RunOpener::Client(counted))?;
     }
     Ok(links)
 }
 
 /// The links of ports, which are left alone where these rules say so.
-fn left_alone<'a, C: Drop, K: DeskName, R: Wait + Clock + Eprint>(
+fn left_alone<'a, A: Drop, C: Drop, K: DeskName, R: Wait + Clock + Eprint>(
     context: &Context<'a, K, R>,
     openers: Vec<C>,
     rules: LinkRules,
-) -> Result<Vec<PortLinks<'a, C, K, R>>, AllocError> {
+) -> Result<Vec<Links<'a, A, C, K, R>>, AllocError> {
     let mut links = Vec::with_capacity(context.alloc, openers.len())?;
     for opener in openers {
         let number = u16::try_from(links.len().saturating_add(1)).unwrap_or(u16::MAX);
-        links.push(PortLinks::new(context, number, opener, rules.leaves_alone))?;
+        let port_links = PortLinks::new(context, number, opener, rules.leaves_alone);
+        links.push(RunOpener::Port(port_links))?;
     }
     Ok(links)
 }

@@ -1,22 +1,30 @@
 //! The core as a link's engine sees it: a place to put events, and a source of output.
 
-use gate_events::{Event, LinkOut, ShortList};
+use gate_events::{Event, LinkOut, Recipient, ShortList};
 use std::alloc::{AllocError, Global};
 use std::sync::Wait;
 
 /// One handle to the gateway's core: events are put into it, lists of output for links are taken from it. Contracts see
 /// the events that were put and the lists that were taken, each in order.
 pub trait Gate {
-    ghost use Rattle.std.specs.Prelude.{◌≡◌, ◌++◌, List, [], ◌∷◌, map, OnOk, IfErr, IfSome, IfNone};
+    ghost use Rattle.std.specs.Prelude.{◌≡◌, ◌++◌, List, [], ◌∷◌, map, Option, OnOk, IfErr, IfSome, IfNone};
     ghost use Rattle.gate_law.specs.Events as law;
     ghost use Rattle.gate_events.specs.Seen.{event_seen, link_out_seen};
+    ghost use Rattle.gate_events.specs.declared.source.Recipient.{Recipient as Addressee};
 
     ghost was_put: { Self → List law.Event };
 
     ghost was_taken: { Self → List (List law.LinkOut) };
 
+    // Whose output is taken from it, where anybody's is.
+    ghost output_for: { Self → Option Addressee };
+
     // It was given this event and gave it back.
     ghost gave_back: { law.Event → Type 0 };
+
+    /// Whose output is taken from it; `None` where nobody's is. Takes no memory.
+    fn recipient(&self) -> Option<Recipient>
+        ensures { result ≡ output_for self.now };
 
     /// Puts an event, or gives it back if there is no room for it now. It may wait for the core's lock, never for room,
     /// and takes no memory.

@@ -3,7 +3,7 @@
 ghost use Rattle.std.specs.Prelude.{◌≡◌, [], map, IfOk};
 ghost use Rattle.gate_events.specs.Seen.{link_out_seen};
 
-use gate_events::{Event, LinkOut, ShortList};
+use gate_events::{Event, LinkOut, Recipient, ShortList};
 use link_io::Gate;
 use seeded_choices::Chance;
 use std::alloc::{AllocError, Global};
@@ -80,14 +80,20 @@ impl Kept {
 }
 
 impl Gate for Kept {
-    ghost use Rattle.std.specs.Prelude.{map};
+    ghost use Rattle.std.specs.Prelude.{None, map};
     ghost use Rattle.gate_events.specs.Seen.{event_seen, link_out_seen};
 
     ghost was_put = { λ g. map event_seen g.events.items };
 
     ghost was_taken = { λ g. map (λ v. map link_out_seen v.items) g.given.items };
 
+    ghost output_for = { λ _. None };
+
     ghost gave_back = { λ _. Unit {0} };
+
+    fn recipient(&self) -> Option<Recipient> {
+        None
+    }
 
     fn put(&mut self, event: Event) -> Result<(), Event> {
         if self.is_full || self.chance.once_in(self.back_once_in) {

@@ -1,5 +1,6 @@
 use Rattle.std.proofs.Common.{◌∙◌, ap, sym}
 use Rattle.gateway_run.specs.Own.{source_of_peer}
+use Rattle.gateway_run.proofs.Kept.{one_of}
 use Rattle.gateway_run.proofs.ends.Ends.add.Goals as goal
 
 pub keep-requires-clause-puts_own : goal.keep-requires-clause-puts_own
@@ -10,4 +11,4 @@ keep-requires-clause-puts_own g c =
 
 pub keep-requires-clause-takes_own : goal.keep-requires-clause-takes_own
 keep-requires-clause-takes_own g c =
-    c.line_of-line.ensures.shared_writer ∙ (c.is_to.ensures c.if-is_to.true ∙ sym c.line_of-line.ensures.peer)
+    one_of (c.line_of-line.ensures.shared_writer ∙ c.is_to.ensures c.if-is_to.true) ∙ sym c.line_of-line.ensures.peer

@@ -9,5 +9,5 @@ invariant_of-self-clause-puts_own g c = pushed _ _ _ _ c.push.ensures.items
 
 pub invariant_of-self-clause-takes_own : goal.invariant_of-self-clause-takes_own
 invariant_of-self-clause-takes_own g c = pushed _ _ _ _ c.push.ensures.items
-    (λ l. g.G.OutletEnd.output_for l.writer.shared_writer.now.first.value ≡ l.peer)
+    (λ l. l.writer.shared_writer.now.first.value.gate.outlet.to ≡ l.peer)
     c.args.self.now.takes_own c.requires.takes_own
