@@ -13,12 +13,3 @@ pushed false old new x e P all one = subst (All P) (sym e) all
 -- where it holds of the one at each position
 pub at_each : {A : Type 0} (P : A → Type 0) (xs : List A) → ((d : ℕ) (x : A) → slice_get xs d ≡ Some x → P x) → All P xs
 at_each P xs each = λ k d inside. each k _ (slice_get-get_or xs k d inside)
-
--- the one of an option, or this
-abbrev one_or : {A : Type 0} → A → Option A → A
-one_or x None = x
-one_or x (Some y) = y
-
--- two options of one
-pub one_of : {A : Type 0} {x y : A} → Some x ≡ Some y → x ≡ y
-one_of {x = x} e = ap (one_or x) e

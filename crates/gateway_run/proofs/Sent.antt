@@ -14,46 +14,17 @@ use Rattle.desk_gates.proofs.desk.Sent.{shared_sync}
 use Rattle.desk_gates.proofs.Sent.{inlet_gate_send, outlet_gate_send}
 use Rattle.desk_gates.specs.contracts.inlet.InletGate as InletGate
 use Rattle.desk_gates.specs.contracts.outlet.OutletGate as OutletGate
-use Rattle.gateway_watch.proofs.Sent.{board_sync}
+use Rattle.gateway_watch.proofs.Sent.{board_sync, order_watch_send}
+use Rattle.gateway_log.proofs.Sent.{counted_send, link_log_send, logged_gate_send, memory_watch_send, timer_send}
 use Rattle.desk_gates.specs.desk.declared.DeskName as DeskName
 use Rattle.desk_gates.specs.contracts.waker.WakerClock as WakerClock
-use Rattle.gateway_run.specs.contracts.counted.CountedLinks as CountedLinks
-use Rattle.gateway_run.specs.contracts.run_opener.RunOpener as RunOpener
+use Rattle.gateway_log.specs.contracts.counted.CountedLinks as CountedLinks
+use Rattle.gateway_log.specs.contracts.run_opener.RunOpener as RunOpener
 use Rattle.gateway_run.specs.contracts.clock.RunClock as RunClock
 use Rattle.gateway_run.specs.contracts.clock.Watch as Watch
 use Rattle.gateway_run.specs.contracts.port_faults.PortLinks as PortLinks
-use Rattle.gateway_run.specs.contracts.memory_watch.MemoryWatch as MemoryWatch
-use Rattle.journal_log.specs.contracts.later.LaterSync as LaterSync
-use Rattle.gateway_run.specs.contracts.order_watch.OrderWatch as OrderWatch
 use Rattle.gateway_run.specs.contracts.run_gate.RunGate as RunGate
-use Rattle.gateway_run.specs.contracts.sync_timer.SyncTimer as SyncTimer
-use Rattle.gateway_run.specs.contracts.link_log.LinkLog as LinkLog
-use Rattle.gateway_run.specs.contracts.logged_gate.LoggedGate as LoggedGate
-
-later_send : IsSend LaterSync.the_row
-later_send = search (sendable, crosses) depth 100 fits 500000
-
-timer_send : IsSend (SyncTimer.the_row LaterSync.the_row)
-timer_send = search (later_send, sendable, crosses) depth 100 fits 500000
-
-module _ (a : NamedLft) (R : RattleType) (r : IsSync R) where
-  pub link_log_send : IsSend (LinkLog.the_row a R)
-  link_log_send = declared_send (LinkLog.the_type a R)
-      (search (r, sendable) depth 40, (search (sendable, crosses) depth 40, tt))
-
-  pub logged_gate_send : (G : RattleType) → IsSend G → IsSend (LoggedGate.the_row a G R)
-  logged_gate_send G g = declared_send (LoggedGate.the_type a G R) (
-    search (g, sendable) depth 40,
-    (search (sendable, crosses) depth 40, (search (link_log_send, sendable) depth 40, tt)),
-  )
-
-  pub memory_watch_send : IsSend (MemoryWatch.the_row a R)
-  memory_watch_send = declared_send (MemoryWatch.the_type a R)
-      (search (link_log_send, sendable) depth 40, (search (sendable, crosses) depth 40, tt))
-
-  pub order_watch_send : IsSend (OrderWatch.the_row a R)
-  order_watch_send = declared_send (OrderWatch.the_type a R)
-      (search (r, sendable) depth 40, (search (sendable, crosses) depth 40, (search (sendable, crosses) depth 40, tt)))
+use Rattle.gateway_log.specs.contracts.logged_gate.LoggedGate as LoggedGate
 
 module _ (a : NamedLft) (K R : RattleType) (k : DeskName.Ghosts K.Denot) (r : IsSync R) where
   pub waker_clock_send : (S T : RattleType) (g : BuildHasher.Ghosts S.Denot T.Denot) (h : Hasher.Ghosts T.Denot)
@@ -152,10 +123,6 @@ module _ (a : NamedLft) (K R : RattleType) (k : DeskName.Ghosts K.Denot) (r : Is
   pub run_clock_send : IsSend (RunClock.the_row a K R k)
   run_clock_send = declared_send (RunClock.the_type a K R k)
       (search (r, sendable) depth 40, (search (watch_send, sendable) depth 40, tt))
-
-pub counted_send : (a : NamedLft) (A : RattleType) → IsSend A → IsSend (CountedLinks.the_row a A)
-counted_send a A s = declared_send (CountedLinks.the_type a A)
-    (search (s, sendable) depth 40, (search (sendable, crosses) depth 40, (search (sendable, crosses) depth 40, tt)))
 
 pub opener_send : (a b : NamedLft) (A C K R : RattleType) (k : DeskName.Ghosts K.Denot) → IsSend A → IsSend C → IsSync R
     → IsSend (RunOpener.the_row (CountedLinks.the_row a A) (PortLinks.the_row b C K R k))

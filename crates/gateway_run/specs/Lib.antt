@@ -1,6 +1,4 @@
-pub mod Openers
 pub mod Own
-pub mod Waiting
 pub use Rattle.gateway_day.specs.Audits
 pub use Rattle.gateway_day.specs.Days
 pub use Rattle.gateway_day.specs.Faults

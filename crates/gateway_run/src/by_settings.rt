@@ -3,9 +3,9 @@
 ghost use Rattle.std.specs.Prelude.{IfOk};
 
 use crate::ends::{LinkRules, RunPlan};
-use crate::link_log::{LinkLog, LoggedOpener, Whose};
 use crate::running::run_shown;
 use gateway_day::{Day, DayJournal, RunFault};
+use gateway_log::{LinkLog, LoggedOpener, Whose};
 use gateway_watch::StatusBoard;
 use link_sockets::{Acceptor, Connector};
 use settings_file::SettingsFile;

@@ -1,14 +1,11 @@
 //! The clocks of readers, and of the worker that has time pass.
 
 use crate::context::Context;
-use crate::counted::ClientCounts;
-use crate::memory_watch::MemoryWatch;
-use crate::order_watch::OrderWatch;
-use crate::sync_timer::SyncTimer;
 use desk::Shared;
 use desk_rings::DeskName;
 use gate_workers::Clock;
-use gateway_watch::StatusBoard;
+use gateway_log::{ClientCounts, MemoryWatch, SyncTimer};
+use gateway_watch::{OrderWatch, StatusBoard};
 use journal_log::LaterSync;
 use link_sockets::SystemClock;
 use std::alloc::Global;

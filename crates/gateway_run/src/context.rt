@@ -1,8 +1,8 @@
 //! What the threads of a day share.
 
-use crate::counted::LinkStates;
 use desk::Shared;
 use desk_rings::DeskName;
+use gateway_log::LinkStates;
 use gateway_watch::StatusBoard;
 use std::alloc::Global;
 use std::hash::RandomState;

@@ -4,7 +4,7 @@ ghost use Rattle.std.specs.Prelude.{◌≡◌, All, Some, true};
 ghost use Rattle.gateway_run.specs.Own.{source_of_peer};
 
 use crate::context::Context;
-use crate::lines::{RunLine, RunWriter, line_of, link_log_of};
+use crate::lines::{RunLine, line_of, link_log_of};
 use crate::run_gate::RunGate;
 use desk_gates::{InletGate, OutletWriter};
 use desk_rings::{DeskName, Inlet};
@@ -38,23 +38,24 @@ pub struct LinkRules {
 /// The lines of a desk's clients and of its ports, in this order. Its type keeps that each puts the events of its own
 /// client or port, and takes what that is told.
 #[derive(Drop)]
-pub(crate) struct Ends<'p, 'a, W: Prompt + Drop, O, K: DeskName, R: Wait + Clock + Eprint> {
+pub(crate) struct Ends<'p, 'a, W: Prompt + Drop, G: Gate + Drop, O, K: DeskName, R> {
     rules: LinkRules,
-    pub(crate) lines: Vec<RunLine<'p, 'a, W, O, K, R>>,
+    pub(crate) lines: Vec<RunLine<'p, 'a, W, G, O, K, R>>,
     ghost puts_own: { All (λ l. l.reader.gate.gate.inlet.source ≡ source_of_peer l.peer) lines.items },
-    ghost takes_own: { All (λ l. l.writer.shared_writer.now.first.value.gate.outlet.to ≡ l.peer) lines.items },
+    ghost takes_own: { All (λ l. G.output_for l.writer.shared_writer.now.first.value ≡ Some l.peer) lines.items },
 }
 
-impl<'p, 'a, W: Prompt + Drop, O: Drop, K: DeskName, R: Wait + Clock + Eprint> Ends<
+impl<'p, 'a, W: Prompt + Drop, G: Gate + Drop, O: Drop, K: DeskName, R: Wait + Clock + Eprint> Ends<
     'p,
     'a,
     W,
+    G,
     O,
     K,
     R,
 > {
     /// No line yet.
-    fn new(alloc: Global, rules: LinkRules) -> Ends<'p, 'a, W, O, K, R> {
+    fn new(alloc: Global, rules: LinkRules) -> Ends<'p, 'a, W, G, O, K, R> {
         Ends {
             rules,
             lines: Vec::new(alloc),
@@ -68,8 +69,8 @@ impl<'p, 'a, W: Prompt + Drop, O: Drop, K: DeskName, R: Wait + Clock + Eprint> E
         peer: Recipient,
         opener: O,
         inlet: Inlet<K>,
-        outlet_writers: &'p [RunWriter<'a, W, K, R>],
-        outlet_writer: &'p RunWriter<'a, W, K, R>,
+        outlet_writers: &'p [OutletWriter<W, G>],
+        outlet_writer: &'p OutletWriter<W, G>,
     ) -> Result<(), AllocError> {
         if is_of(&inlet, source_of(&peer)) && is_to(outlet_writer, &peer) {
             let at = inlet.position();
@@ -83,9 +84,9 @@ impl<'p, 'a, W: Prompt + Drop, O: Drop, K: DeskName, R: Wait + Clock + Eprint> E
     }
 
     /// Adds a line that is over its own ends.
-    fn keep(&mut self, line: RunLine<'p, 'a, W, O, K, R>) -> Result<(), AllocError>
+    fn keep(&mut self, line: RunLine<'p, 'a, W, G, O, K, R>) -> Result<(), AllocError>
         requires puts_own { line.reader.gate.gate.inlet.source ≡ source_of_peer line.peer }
-        requires takes_own { line.writer.shared_writer.now.first.value.gate.outlet.to ≡ line.peer }
+        requires takes_own { G.output_for line.writer.shared_writer.now.first.value ≡ Some line.peer }
     {
         self.lines.push(line)?;
         Ok(())
@@ -132,14 +133,18 @@ fn is_to<W: Prompt + Drop, G: Gate + Drop>(
 
 /// Lines over the inlets and the outlets' writers of a desk: each inlet of a client or port with the writer at its
 /// position.
-pub(crate) fn ends_of<'p, 'a, W: Prompt + Drop, O: Drop, K: DeskName, R: Wait + Clock + Eprint>(
+pub(crate) fn ends_of<'p, 'a, W: Prompt + Drop, G: Gate + Drop, O: Drop, K, R>(
     context: &Context<'a, K, R>,
     inlets: Vec<Inlet<K>>,
-    outlet_writers: &'p [RunWriter<'a, W, K, R>],
+    outlet_writers: &'p [OutletWriter<W, G>],
     clients: Vec<O>,
     ports: Vec<O>,
     rules: LinkRules,
-) -> Result<Ends<'p, 'a, W, O, K, R>, AllocError> {
+) -> Result<Ends<'p, 'a, W, G, O, K, R>, AllocError>
+where
+    K: DeskName,
+    R: Wait + Clock + Eprint,
+{
     let mut accepting = clients.into_iter();
     let mut connecting = ports.into_iter();
     let mut ends = Ends::new(context.alloc, rules);

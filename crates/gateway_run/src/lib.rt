@@ -5,20 +5,12 @@
 mod by_settings;
 mod clock;
 mod context;
-mod counted;
 mod ends;
 mod lines;
-mod link_log;
-mod logged_gate;
-mod login_pause;
-mod memory_watch;
-mod order_watch;
 mod port_faults;
 mod resuming;
 mod run_gate;
-mod run_opener;
 mod running;
-mod sync_timer;
 
 pub use by_settings::{end_stopped, run_settings};
 pub use ends::{LinkRules, RunPlan};
@@ -31,9 +23,7 @@ pub use gateway_day::{
     end_stopped_day, write_fault,
 };
 pub use gateway_watch::StatusBoard;
-pub use link_log::{LinkLog, Whose};
 pub use order_accounts::ReadingFault;
 pub use running::{run, run_shown};
 pub use settings_file::{SettingsFault, SettingsFile, read};
 pub use soup_session::PortFault;
-pub use sync_timer::SyncTimer;

@@ -1,19 +1,17 @@
 //! The lines of a gateway, over the ends of its desk.
 
-ghost use Rattle.std.specs.Prelude.{◌≡◌, All, [], None, Some, IfSome};
+ghost use Rattle.std.specs.Prelude.{◌≡◌, All, [], None, IfSome};
 ghost use Rattle.gate_events.specs.declared.source.Source.TheVariants as sources;
 
 use crate::clock::RunClock;
 use crate::context::Context;
-use crate::link_log::{LinkLog, Whose};
-use crate::logged_gate::LoggedGate;
 use crate::run_gate::RunGate;
-use crate::sync_timer::SyncTimer;
 use desk::Shared;
 use desk_gates::{InletGate, OutletGate, OutletWriter, WakerClock};
 use desk_rings::{DeskName, Finished, Inlet, Outlet};
 use gate_events::{Recipient, Source};
 use gate_serving::{Line, Ticks, Worker, WriterWorker};
+use gateway_log::{LinkLog, LoggedGate, SyncTimer, Whose};
 use journal_log::LaterSync;
 use link_io::{Gate, LinkFault, Prompt};
 use std::alloc::{AllocError, Global};
@@ -36,40 +34,42 @@ pub(crate) type WritingGate<'a, K, R> = LoggedGate<'a, OutletGate<'a, K, RandomS
 pub(crate) type RunWriter<'a, W, K, R> = OutletWriter<W, WritingGate<'a, K, R>>;
 
 /// The gate of a reader, or of the ticker, over an inlet.
-pub(crate) type ReadingGate<'p, 'a, W, K, R> = RunGate<
+pub(crate) type ReadingGate<'p, 'a, W, G, K, R> = RunGate<
     'a,
-    InletGate<'p, 'a, W, WritingGate<'a, K, R>, K, RandomState>,
+    InletGate<'p, 'a, W, G, K, RandomState>,
     K,
     R,
 >;
 
 /// A line of a gateway, whose links come from an opener.
-pub(crate) type RunLine<'p, 'a, W, O, K, R> = Line<
+pub(crate) type RunLine<'p, 'a, W, G, O, K, R> = Line<
     O,
-    Worker<ReadingGate<'p, 'a, W, K, R>, RunClock<'a, K, R>>,
-    WriterWorker<'p, W, WritingGate<'a, K, R>, WakerClock<'a, K, R, RandomState>>,
+    Worker<ReadingGate<'p, 'a, W, G, K, R>, RunClock<'a, K, R>>,
+    WriterWorker<'p, W, G, WakerClock<'a, K, R, RandomState>>,
 >;
 
 /// The ticks of a gateway.
-pub(crate) type RunTicks<'p, 'a, W, K, R> = Ticks<
+pub(crate) type RunTicks<'p, 'a, W, G, K, R> = Ticks<
     'a,
-    ReadingGate<'p, 'a, W, K, R>,
+    ReadingGate<'p, 'a, W, G, K, R>,
     RunClock<'a, K, R>,
 >;
 
 /// The line of a client or port over the gate of its inlet and the writer of its outlet, both at this position.
-pub(crate) fn line_of<'p, 'a, W: Prompt + Drop, O, K: DeskName, R: Wait + Clock + Eprint>(
+pub(crate) fn line_of<'p, 'a, W: Prompt + Drop, G: Gate + Drop, O, K, R>(
     context: &Context<'a, K, R>,
     peer: Recipient,
     opener: O,
-    gate: ReadingGate<'p, 'a, W, K, R>,
+    gate: ReadingGate<'p, 'a, W, G, K, R>,
     at: usize,
-    outlet_writer: &'p RunWriter<'a, W, K, R>,
-) -> RunLine<'p, 'a, W, O, K, R>
+    outlet_writer: &'p OutletWriter<W, G>,
+) -> RunLine<'p, 'a, W, G, O, K, R>
+where
+    K: DeskName,
+    R: Wait + Clock + Eprint,
     ensures peer { result.peer ≡ peer }
     ensures gate { result.reader.gate ≡ gate.entry }
-    ensures shared_writer { Some result.writer.shared_writer.now.first.value.gate.outlet.to
-        ≡ outlet_writer.now.to }
+    ensures shared_writer { G.output_for result.writer.shared_writer.now.first.value ≡ outlet_writer.now.to }
     ensures fault { result.fault ≡ None }
 {
     Line {
@@ -90,12 +90,15 @@ pub(crate) fn line_of<'p, 'a, W: Prompt + Drop, O, K: DeskName, R: Wait + Clock 
 
 /// Ticks for each client and port through the clock's inlet, where they are due, until the day is over, how all stand
 /// onto the board, and a journal's later syncs. None through another's inlet.
-pub(crate) fn ticks_of<'p, 'a, W: Prompt + Drop, K: DeskName, R: Wait + Clock + Eprint>(
+pub(crate) fn ticks_of<'p, 'a, W: Prompt + Drop, G: Gate + Drop, K, R>(
     context: &Context<'a, K, R>,
     inlet: Inlet<K>,
-    outlet_writers: &'p [RunWriter<'a, W, K, R>],
+    outlet_writers: &'p [OutletWriter<W, G>],
     syncs: Option<SyncTimer<LaterSync>>,
-) -> Option<RunTicks<'p, 'a, W, K, R>>
+) -> Option<RunTicks<'p, 'a, W, G, K, R>>
+where
+    K: DeskName,
+    R: Wait + Clock + Eprint,
     ensures own { IfSome result (λ ticks. ticks.gate.gate.inlet.source ≡ sources.Clock) }
 {
     if inlet.source() == Source::Clock {
@@ -135,9 +138,9 @@ impl<K: DeskName> Left<K> {
     }
 
     /// Ends the inlets of lines, and keeps what was put, and the first fault.
-    pub(crate) fn end_lines<'p, 'a, W: Prompt + Drop, O: Drop, R: Wait + Clock + Eprint>(
+    pub(crate) fn end_lines<'p, 'a, W: Prompt + Drop, G: Gate + Drop, O: Drop, R>(
         &mut self,
-        lines: Vec<RunLine<'p, 'a, W, O, K, R>>,
+        lines: Vec<RunLine<'p, 'a, W, G, O, K, R>>,
     ) -> Result<(), AllocError> {
         for line in lines {
             let Line { fault, reader, .. } = line;
@@ -148,9 +151,9 @@ impl<K: DeskName> Left<K> {
     }
 
     /// Ends the inlet of ticks, and keeps what was put.
-    pub(crate) fn end_ticks<'p, 'a, W: Prompt + Drop, R: Wait + Clock + Eprint>(
+    pub(crate) fn end_ticks<'p, 'a, W: Prompt + Drop, G: Gate + Drop, R>(
         &mut self,
-        ticks: Option<RunTicks<'p, 'a, W, K, R>>,
+        ticks: Option<RunTicks<'p, 'a, W, G, K, R>>,
     ) -> Result<(), AllocError> {
         let Some(ticks) = ticks else {
             return Ok(());

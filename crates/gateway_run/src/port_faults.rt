@@ -3,21 +3,19 @@
 ghost use Rattle.std.specs.Prelude.{◌≡◌};
 
 use crate::context::Context;
-use crate::link_log::{LinkLog, Whose};
-use crate::login_pause::pause_behind;
 use desk::Shared;
 use desk_rings::DeskName;
 use gate_serving::{LinkEnd, Opened, Opener};
+use gateway_log::{LinkLog, NextLogin, Whose, pause_behind};
 use gateway_watch::fault_name;
 use link_io::LinkFault;
 use soup_session::PortState;
 use std::alloc::Global;
-use std::fmt::{Display, Formatter};
 use std::hash::RandomState;
 use std::sync::Wait;
 use std::sync::atomic::{AtomicBool, AtomicU8, Ordering};
+use std::thread;
 use std::time::{Clock, Duration};
-use std::{fmt, thread};
 
 /// How often in a second a pause looks whether the day is over.
 const LOOKS: u64 = 100;
@@ -126,19 +124,6 @@ impl<'a, C, K: DeskName, R: Wait + Clock + Eprint> PortLinks<'a, C, K, R> {
     /// Who tells of this port.
     fn link_log(&self) -> LinkLog<'a, R> {
         LinkLog::new(self.rt, Whose::Port(usize::from(self.number)))
-    }
-}
-
-/// When a login is tried again that was rejected.
-#[derive(Drop)]
-struct NextLogin {
-    seconds: u64,
-}
-
-impl Display for NextLogin {
-    fn fmt<W: fmt::Write>(&self, f: &mut Formatter<W>) -> fmt::Result {
-        let seconds = self.seconds;
-        write!(f, "next login in {seconds} s")
     }
 }
 

@@ -2,12 +2,12 @@
 
 ghost use Rattle.std.specs.Prelude.{◌≡◌, length};
 
-use crate::sync_timer::SyncTimer;
 use desk::{Replayed, Shared};
 use desk_rings::{DeskName, Inlet, Outlet};
 use gate_journal::OpenLink;
 use gate_workers::Clock as _;
 use gateway_day::{DayJournal, JournalFile, NewFile, RunFault, Syncs};
+use gateway_log::SyncTimer;
 use journal_log::LaterSync;
 use link_sockets::SystemClock;
 use std::alloc::{AllocError, Global};

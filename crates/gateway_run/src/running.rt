@@ -7,23 +7,21 @@ ghost use Rattle.desk_gates.specs.desk.Ahead.{IsEnded};
 ghost use Rattle.desk_gates.specs.desk.Settling.{AreSettled};
 
 use crate::context::{Context, Layout};
-use crate::counted::{CountedLinks, LinkStates};
 use crate::ends::{Ends, LinkRules, RunPlan, ends_of};
-use crate::lines::{Left, RunWriter, outlet_writers_of, ticks_of};
-use crate::order_watch::ports_of_clients;
+use crate::lines::{Left, outlet_writers_of, ticks_of};
 use crate::port_faults::PortLinks;
 use crate::resuming::go_on;
-use crate::run_opener::RunOpener;
-use crate::sync_timer::SyncTimer;
 use desk::{Parts, Shared, open_desk};
+use desk_gates::OutletWriter;
 use desk_rings::{DeskName, Finished, Inlet};
 use desk_steps::Closed;
 use gate_serving::{Closer, Opener, serve};
 use gate_settings::Settings;
 use gateway_day::{Day, DayJournal, RunFault};
-use gateway_watch::StatusBoard;
+use gateway_log::{CountedLinks, LinkStates, RunOpener, SyncTimer};
+use gateway_watch::{StatusBoard, ports_of_clients};
 use journal_log::LaterSync;
-use link_io::Prompt;
+use link_io::{Gate, Prompt};
 use std::alloc::{AllocError, Global};
 use std::hash::RandomState;
 use std::io::Read;
@@ -174,10 +172,10 @@ fn close_desk<K: DeskName, R: Clock>(
 
 /// Serves the ends of a desk, the last inlet being the clock's, until the clients' links have been served, and ends
 /// them. Time passes in the calling thread, which has the journal synced where that is left for later.
-fn serve_desk<'p, 'a, K, R, A, C>(
+fn serve_desk<'p, 'a, K, R, A, C, G>(
     context: &Context<'a, K, R>,
     inlets: Vec<Inlet<K>>,
-    outlet_writers: &'p [RunWriter<'a, A::Writer, K, R>],
+    outlet_writers: &'p [OutletWriter<A::Writer, G>],
     plan: RunPlan<A, C>,
     syncs: Option<SyncTimer<LaterSync>>,
 ) -> Result<Left<K>, RunFault>
@@ -189,6 +187,7 @@ where
     A::Writer: Prompt + Send + Drop,
     A::Closer: Closer + Send + Drop,
     C: Opener<Reader = A::Reader, Writer = A::Writer, Closer = A::Closer> + Send + Drop,
+    G: Gate + Send + Drop,
     requires clock { 0 < length inlets.items }
 {
     let mut left = Left::with_room(context.alloc, inlets.len(), outlet_writers.len())?;

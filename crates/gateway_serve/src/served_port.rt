@@ -5,7 +5,7 @@ ghost use Rattle.std.specs.Prelude.{◌≡◌, true};
 use crate::day_flags::DayFlags;
 use crate::pacing::{between_lines, pause_after, soon};
 use gate_serving::{LinkEnd, Opened, Opener};
-use gateway_run::LinkLog;
+use gateway_log::LinkLog;
 use link_io::LinkFault;
 use link_sockets::{SocketCloser, SocketReader, SocketWriter, connected, link_of};
 use std::fmt::{Display, Formatter};

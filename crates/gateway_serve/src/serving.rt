@@ -8,9 +8,8 @@ use crate::served_port::ServedPort;
 use crate::waiting_room::WaitingRoom;
 use control_guard::Rules;
 use gateway_control::{DayControl, Endpoint, serve_endpoint};
-use gateway_run::{
-    Day, DayJournal, LinkLog, LinkRules, RunFault, RunPlan, SettingsFile, Whose, run_shown,
-};
+use gateway_log::{LinkLog, Whose};
+use gateway_run::{Day, DayJournal, LinkRules, RunFault, RunPlan, SettingsFile, run_shown};
 use operator_settings::{AddressRange, DaySettings, OperatorSettings};
 use std::alloc::{AllocError, Global};
 use std::hash::RandomState;

@@ -4,7 +4,7 @@ ghost use Rattle.std.specs.Prelude.{◌≡◌, true};
 
 use crate::day_flags::DayFlags;
 use gate_serving::{LinkEnd, Opened, Opener};
-use gateway_run::LinkLog;
+use gateway_log::LinkLog;
 use link_io::LinkFault;
 use link_sockets::{SocketCloser, SocketReader, SocketWriter, link_of};
 use operator_settings::{AddressRange, admit};

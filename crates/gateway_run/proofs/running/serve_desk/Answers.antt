@@ -7,17 +7,16 @@ use Rattle.std.proofs.Crossing.{crosses}
 use Rattle.std.specs.declared.hash.BuildHasher as BuildHasher
 use Rattle.std.specs.declared.hash.Hasher as Hasher
 use Rattle.std.specs.declared.io.Write as Write
+use Rattle.desk_gates.proofs.Sent.{inlet_gate_send}
 use Rattle.desk_gates.specs.desk.declared.DeskName as DeskName
 use Rattle.desk_gates.specs.contracts.inlet.InletGate as InletGate
-use Rattle.desk_gates.specs.contracts.outlet.OutletGate as OutletGate
 use Rattle.link_io.specs.declared.gate.Gate as Gate
 use Rattle.link_io.specs.declared.streams.Prompt as Prompt
-use Rattle.gateway_run.specs.contracts.counted.CountedLinks as CountedLinks
-use Rattle.gateway_run.specs.contracts.logged_gate.LoggedGate as LoggedGate
-use Rattle.gateway_run.specs.contracts.run_opener.RunOpener as RunOpener
+use Rattle.gateway_log.specs.contracts.counted.CountedLinks as CountedLinks
+use Rattle.gateway_log.specs.contracts.run_opener.RunOpener as RunOpener
 use Rattle.gateway_run.specs.contracts.port_faults.PortLinks as PortLinks
 use Rattle.gateway_run.specs.contracts.run_gate.RunGate as RunGate
-use Rattle.gateway_run.proofs.Sent.{opener_send, reading_gate_send, run_clock_send, waker_clock_send, writing_gate_send}
+use Rattle.gateway_run.proofs.Sent.{waker_clock_send, opener_send, run_clock_send, run_gate_send}
 use Rattle.gateway_run.proofs.running.serve_desk.Goals as goal
 
 pub serve-requires-send-O : goal.serve-requires-send-O
@@ -30,30 +29,21 @@ serve-requires-send-O g c κs l =
 
 pub serve-requires-send-G : goal.serve-requires-send-G
 serve-requires-send-G g c κs l =
-    let W = param 5 g.row.A-Writer in let R = param 1 g.row.R in let bounds = c.type_bounds in
-    let writing : (a b : NamedLft) (K S T : RattleType) (k : DeskName.Ghosts K.Denot)
-    (s : BuildHasher.Ghosts S.Denot T.Denot) (h : Hasher.Ghosts T.Denot) → IsSend S
-    → IsSend (LoggedGate.the_row a (OutletGate.the_row b K S T k s h) R)
-    = λ a b K S T k s h i. writing_gate_send R bounds.sync-R K S T k s h i a b in
-    let reading : (a b q : NamedLft) (G : RattleType) (p : Prompt.Ghosts W.Denot) (w : Write.Ghosts W.Denot)
+    let W = param 6 g.row.A-Writer in let G = param 4 g.row.G in
+    let R = param 1 g.row.R in
+    let bounds = c.type_bounds in
+    let gates : (q a : NamedLft) (p : Prompt.Ghosts W.Denot) (w : Write.Ghosts W.Denot)
     (t : Gate.Ghosts G.Denot) (K S T : RattleType) (k : DeskName.Ghosts K.Denot)
-    (s : BuildHasher.Ghosts S.Denot T.Denot) (h : Hasher.Ghosts T.Denot) → IsSend S → IsSend G
-    → IsSend (RunGate.the_row a (InletGate.the_row q b W G K S T p w t k s h) K R k)
-    = λ a b q G p w t K S T k s h i j.
-    reading_gate_send R bounds.sync-R K S T k s h i a b q W G p w t bounds.send-A-Writer j in
-    search (reading, writing, sendable, crosses) depth 100 fits 500000
+    (b : BuildHasher.Ghosts S.Denot T.Denot) (h : Hasher.Ghosts T.Denot) → IsSend S
+    → IsSend (InletGate.the_row q a W G K S T p w t k b h)
+    = λ q a p w t K S T k b h s. inlet_gate_send W G p w t bounds.send-A-Writer bounds.send-G K S T k b h s q a in
+    let looked : (a : NamedLft) (X K : RattleType) (k : DeskName.Ghosts K.Denot) → IsSend X
+    → IsSend (RunGate.the_row a X K R k)
+    = λ a X K k x. run_gate_send a K R k bounds.sync-R X x in
+    search (looked, gates, sendable, crosses) depth 100 fits 500000
 
 pub serve-requires-send-C : goal.serve-requires-send-C
 serve-requires-send-C g c κs l = search (run_clock_send, c.type_bounds.sync-R, sendable) depth 40
-
-pub serve-requires-send-H : goal.serve-requires-send-H
-serve-requires-send-H g c κs l =
-    let R = param 1 g.row.R in
-    let writing : (a b : NamedLft) (K S T : RattleType) (k : DeskName.Ghosts K.Denot)
-    (s : BuildHasher.Ghosts S.Denot T.Denot) (h : Hasher.Ghosts T.Denot) → IsSend S
-    → IsSend (LoggedGate.the_row a (OutletGate.the_row b K S T k s h) R)
-    = λ a b K S T k s h i. writing_gate_send R c.type_bounds.sync-R K S T k s h i a b in
-    search (writing, sendable, crosses) depth 100 fits 500000
 
 pub serve-requires-send-D : goal.serve-requires-send-D
 serve-requires-send-D g c κs l = search (waker_clock_send, c.type_bounds.sync-R, sendable) depth 40

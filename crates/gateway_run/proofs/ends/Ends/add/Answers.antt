@@ -1,6 +1,6 @@
 use Rattle.std.proofs.Common.{◌∙◌, ap, sym}
+use Rattle.std.specs.Prelude.{Some}
 use Rattle.gateway_run.specs.Own.{source_of_peer}
-use Rattle.gateway_run.proofs.Kept.{one_of}
 use Rattle.gateway_run.proofs.ends.Ends.add.Goals as goal
 
 pub keep-requires-clause-puts_own : goal.keep-requires-clause-puts_own
@@ -11,4 +11,5 @@ keep-requires-clause-puts_own g c =
 
 pub keep-requires-clause-takes_own : goal.keep-requires-clause-takes_own
 keep-requires-clause-takes_own g c =
-    one_of (c.line_of-line.ensures.shared_writer ∙ c.is_to.ensures c.if-is_to.true) ∙ sym c.line_of-line.ensures.peer
+    c.line_of-line.ensures.shared_writer ∙ c.is_to.ensures c.if-is_to.true
+    ∙ ap (λ peer. Some peer) (sym c.line_of-line.ensures.peer)

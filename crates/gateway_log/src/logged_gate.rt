@@ -13,7 +13,7 @@ use std::time::Clock;
 /// A gate of a link's writer that tells on standard error of each Reject, ResendRequest and Logout that its link is
 /// sent; or that tells nothing.
 #[derive(Drop)]
-pub(crate) struct LoggedGate<'a, G, R> {
+pub struct LoggedGate<'a, G, R> {
     gate: G,
     alloc: Global,
     link_log: Option<LinkLog<'a, R>>,
@@ -23,11 +23,7 @@ impl<'a, G, R> LoggedGate<'a, G, R> {
     ghost use Rattle.std.specs.Prelude.{◌≡◌};
 
     /// This gate, with who tells, where somebody does. Takes no memory.
-    pub(crate) fn new(
-        alloc: Global,
-        gate: G,
-        link_log: Option<LinkLog<'a, R>>,
-    ) -> LoggedGate<'a, G, R>
+    pub fn new(alloc: Global, gate: G, link_log: Option<LinkLog<'a, R>>) -> LoggedGate<'a, G, R>
         ensures { result.gate ≡ gate }
     {
         LoggedGate {
@@ -38,7 +34,7 @@ impl<'a, G, R> LoggedGate<'a, G, R> {
     }
 
     /// The gate. Takes no memory.
-    pub(crate) fn into_gate(self) -> G
+    pub fn into_gate(self) -> G
         ensures { result ≡ self.entry.gate }
     {
         self.gate

@@ -7,7 +7,7 @@ use std::time::Clock;
 
 /// Tells once that events wait for memory, and once that they don't any more.
 #[derive(Drop)]
-pub(crate) struct MemoryWatch<'a, R> {
+pub struct MemoryWatch<'a, R> {
     link_log: LinkLog<'a, R>,
     /// Since when memory is refused, in milliseconds since 1970.
     since: Option<u64>,
@@ -15,7 +15,7 @@ pub(crate) struct MemoryWatch<'a, R> {
 
 impl<'a, R: Clock + Eprint> MemoryWatch<'a, R> {
     /// Memory is there. Takes none.
-    pub(crate) fn new(rt: &'a R) -> MemoryWatch<'a, R> {
+    pub fn new(rt: &'a R) -> MemoryWatch<'a, R> {
         MemoryWatch {
             link_log: LinkLog::new(rt, Whose::Gateway),
             since: None,
@@ -23,7 +23,7 @@ impl<'a, R: Clock + Eprint> MemoryWatch<'a, R> {
     }
 
     /// Memory is refused at this moment, or it isn't.
-    pub(crate) fn look(&mut self, is_refused: bool, now: u64) {
+    pub fn look(&mut self, is_refused: bool, now: u64) {
         match self.since {
             None if is_refused => {
                 self.since = Some(now);

@@ -1,13 +1,13 @@
 //! Where the links of a gateway's lines come from.
 
-ghost use Rattle.gateway_run.specs.Openers.{run_ended, run_opened};
+ghost use Rattle.gateway_log.specs.Openers.{run_ended, run_opened};
 
 use gate_serving::{LinkEnd, Opened, Opener};
 use link_io::LinkFault;
 
 /// Opens the links of a client, or of a port.
 #[derive(Drop)]
-pub(crate) enum RunOpener<A, C> {
+pub enum RunOpener<A, C> {
     Client(A),
     Port(C),
 }

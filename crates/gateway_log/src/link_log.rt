@@ -74,14 +74,14 @@ impl<'a, R: Clock + Eprint> LinkLog<'a, R> {
     }
 
     /// Tells how many bytes of a link were part of no frame.
-    pub(crate) fn log_skipped(&self, count: u64) {
+    pub fn log_skipped(&self, count: u64) {
         let at = self.now();
         let at = str::from_utf8(&at).unwrap_or("");
         let _ = eprintln!(self.rt; "{at} {} skipped {count} bytes", self.whose);
     }
 
     /// Tells why a port is faulted, by the fault's number and name.
-    pub(crate) fn log_port_fault(&self, number: u8, name: &str) {
+    pub fn log_port_fault(&self, number: u8, name: &str) {
         let at = self.now();
         let at = str::from_utf8(&at).unwrap_or("");
         let _ = eprintln!(self.rt; "{at} {} port fault {number}: {name}", self.whose);
@@ -99,7 +99,7 @@ impl<'a, R: Clock + Eprint> LinkLog<'a, R> {
 /// An opener that tells of each of its links: `up`, `gone`, `closed by the gateway`, `link fault n`. Of links that
 /// can't be opened, one after the other, it tells once.
 #[derive(Drop)]
-pub(crate) struct LoggedOpener<'a, O, R> {
+pub struct LoggedOpener<'a, O, R> {
     link_log: LinkLog<'a, R>,
     opener: O,
     is_in_vain: bool,
@@ -107,7 +107,7 @@ pub(crate) struct LoggedOpener<'a, O, R> {
 
 impl<'a, O, R: Clock + Eprint> LoggedOpener<'a, O, R> {
     /// Of these links. Takes no memory.
-    pub(crate) fn new(link_log: LinkLog<'a, R>, opener: O) -> LoggedOpener<'a, O, R> {
+    pub fn new(link_log: LinkLog<'a, R>, opener: O) -> LoggedOpener<'a, O, R> {
         LoggedOpener {
             link_log,
             opener,

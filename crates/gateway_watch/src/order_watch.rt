@@ -1,14 +1,15 @@
 //! What is told of orders that wait at a port that isn't up.
 
 ghost use Rattle.std.specs.Prelude.{◌≡◌, ◌<◌, IfOk};
-ghost use Rattle.gateway_run.specs.Waiting as spec;
+ghost use Rattle.gateway_watch.specs.ClientPorts as spec;
 
-use crate::link_log::{LinkLog, Whose};
+use crate::wait::{PortWait, due_since, wait_after};
+use crate::waiting::{orders_at, orders_wait};
 use desk_steps::Status;
 use fix_stamp::stamp;
 use gate_core::PortRow;
 use gate_settings::Settings;
-use gateway_watch::{PortWait, due_since, orders_at, orders_wait, wait_after};
+use gateway_log::{LinkLog, Whose};
 use std::alloc::{AllocError, Global};
 use std::fmt::{Display, Formatter};
 use std::time::Clock;
@@ -18,7 +19,7 @@ use std::{fmt, str};
 const PORTS: usize = 16;
 
 /// Of each client, in the order of the settings, the port that it is on, by its number from 1.
-pub(crate) fn ports_of_clients(alloc: Global, settings: &Settings) -> Result<Vec<u16>, AllocError>
+pub fn ports_of_clients(alloc: Global, settings: &Settings) -> Result<Vec<u16>, AllocError>
     ensures { IfOk result (λ ports. ports.items ≡ spec.ports_of_clients settings.now) }
 {
     let mut ports = Vec::new(alloc);
@@ -30,7 +31,7 @@ pub(crate) fn ports_of_clients(alloc: Global, settings: &Settings) -> Result<Vec
 
 /// Tells of each port on which orders wait, once they have for ten seconds, and at each doubling.
 #[derive(Drop)]
-pub(crate) struct OrderWatch<'a, R> {
+pub struct OrderWatch<'a, R> {
     rt: &'a R,
     /// Of each client the port that it is on.
     clients: &'a [u16],
@@ -40,7 +41,7 @@ pub(crate) struct OrderWatch<'a, R> {
 
 impl<'a, R: Clock + Eprint> OrderWatch<'a, R> {
     /// No orders wait yet; of each client this is its port. Takes no memory.
-    pub(crate) fn new(rt: &'a R, clients: &'a [u16]) -> OrderWatch<'a, R> {
+    pub fn new(rt: &'a R, clients: &'a [u16]) -> OrderWatch<'a, R> {
         OrderWatch {
             rt,
             clients,
@@ -49,7 +50,7 @@ impl<'a, R: Clock + Eprint> OrderWatch<'a, R> {
     }
 
     /// Looks how all stand at this moment, and tells what is due.
-    pub(crate) fn look(&mut self, status: &Status, now: u64) {
+    pub fn look(&mut self, status: &Status, now: u64) {
         for (place, port) in status.ports().iter().enumerate() {
             if place < PORTS {
                 self.look_at(place, port, status, now);

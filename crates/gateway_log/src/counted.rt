@@ -7,15 +7,15 @@ use std::sync::atomic::{AtomicBool, AtomicU8, AtomicU32, Ordering};
 
 /// What the lines of a gateway share of their links.
 #[derive(Drop)]
-pub(crate) struct LinkStates {
-    pub(crate) clients: ClientCounts,
+pub struct LinkStates {
+    pub clients: ClientCounts,
     /// For each port the letter with which its last login was rejected; 0 where it wasn't.
-    pub(crate) letters: Vec<AtomicU8>,
+    pub letters: Vec<AtomicU8>,
 }
 
 impl LinkStates {
     /// Of so many clients and ports, none of which has had a link.
-    pub(crate) fn of(alloc: Global, clients: u32, ports: usize) -> Result<LinkStates, AllocError> {
+    pub fn of(alloc: Global, clients: u32, ports: usize) -> Result<LinkStates, AllocError> {
         let mut letters = Vec::with_capacity(alloc, ports)?;
         for _ in 0..ports {
             letters.push(AtomicU8::new(0))?;
@@ -27,14 +27,14 @@ impl LinkStates {
     }
 
     /// Where the letter of the port of this number, from 1, is kept.
-    pub(crate) fn letter_of(&self, number: u16) -> Option<&AtomicU8> {
+    pub fn letter_of(&self, number: u16) -> Option<&AtomicU8> {
         self.letters.get(usize::from(number).wrapping_sub(1))
     }
 }
 
 /// How a gateway's clients stand.
 #[derive(Drop)]
-pub(crate) struct ClientCounts {
+pub struct ClientCounts {
     /// How many may have a further link.
     left: AtomicU32,
     /// How many wait for a link, or have one.
@@ -43,7 +43,7 @@ pub(crate) struct ClientCounts {
 
 impl ClientCounts {
     /// Of so many clients, none of which waits or has a link. Takes no memory.
-    pub(crate) fn of(clients: u32) -> ClientCounts {
+    pub fn of(clients: u32) -> ClientCounts {
         ClientCounts {
             left: AtomicU32::new(clients),
             busy: AtomicU32::new(0),
@@ -51,14 +51,14 @@ impl ClientCounts {
     }
 
     /// Whether no client waits for a link or has one.
-    pub(crate) fn are_idle(&self) -> bool {
+    pub fn are_idle(&self) -> bool {
         self.busy.load(Ordering::SeqCst) == 0
     }
 }
 
 /// The links of a client. Once the last client has no further one, `is_over` is set.
 #[derive(Drop)]
-pub(crate) struct CountedLinks<'a, O> {
+pub struct CountedLinks<'a, O> {
     links: O,
     counts: &'a ClientCounts,
     is_over: &'a AtomicBool,
@@ -66,11 +66,7 @@ pub(crate) struct CountedLinks<'a, O> {
 
 impl<'a, O> CountedLinks<'a, O> {
     /// These links, as those of one of the clients that are counted. Takes no memory.
-    pub(crate) fn new(
-        links: O,
-        counts: &'a ClientCounts,
-        is_over: &'a AtomicBool,
-    ) -> CountedLinks<'a, O> {
+    pub fn new(links: O, counts: &'a ClientCounts, is_over: &'a AtomicBool) -> CountedLinks<'a, O> {
         CountedLinks {
             links,
             counts,

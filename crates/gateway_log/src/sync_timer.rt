@@ -33,7 +33,7 @@ impl<F: LaterFile> SyncTimer<F> {
 
     /// Syncs the file, where it is due at this moment, in milliseconds of the clock. The answer says whether a sync has
     /// failed; it is never tried again.
-    pub(crate) fn look(&mut self, now: u64) -> bool
+    pub fn look(&mut self, now: u64) -> bool
         ensures due { self.old.has_failed ≡ false → self.old.next ≤ now
             → F.asked self.new.file ≡ F.asked self.old.file + 1 }
         ensures failed { F.faults self.old.file < F.faults self.new.file → result ≡ true }
