@@ -1,7 +1,7 @@
 -- The sum of a page: FNV-1a of 64 bits, taken over words of eight bytes, the high byte first, the last one filled up
 -- with zeros. It tells a torn write from a whole one; it is no seal. (The form is the gateway's own; FNV-1a: the
 -- authors' offset basis and prime of 64 bits.)
-use Rattle.std.specs.Prelude.{ℕ, zero, suc, ◌*◌, ◌%◌, ◌^◌, List, [], ◌∷◌, length, drop, bit_xor}
+use Rattle.std.specs.Prelude.{◌≡◌, ℕ, zero, suc, ◌*◌, ◌%◌, ◌^◌, List, [], ◌∷◌, ◌++◌, length, drop, take, bit_xor}
 use Rattle.std.specs.Int.{w64, from_be_bytes}
 
 -- one word more
@@ -26,3 +26,14 @@ basis = 14_695_981_039_346_656_037
 
 abbrev pub sum_of : List ℕ → ℕ
 sum_of bytes = sum_from basis bytes
+
+-- What is kept of bytes that come piece by piece: the sum of the whole words, and in front of a word the bytes behind
+-- them.
+pub record IsRunning (bytes : List ℕ) (sum : ℕ) (word : List ℕ) (size : ℕ) : Type 0 where
+  pub whole : List ℕ
+  pub words : ℕ
+  pub count : length whole ≡ words * 8
+  pub parts : bytes ≡ whole ++ take (size % 8) word
+  pub summed : sum ≡ sum_from basis whole
+  pub sized : size ≡ length bytes
+  pub room : length word ≡ 8

@@ -4,12 +4,15 @@ ghost use Rattle.std.specs.Prelude.{◌≡◌, ◌≤◌, length, slice_index};
 ghost use Rattle.std.specs.Int.{w64, from_be_bytes};
 ghost use Rattle.journal_file.specs.Sum as spec;
 
+/// The sum of no bytes.
+pub(crate) const BASIS: u64 = 14_695_981_039_346_656_037;
+
 /// The sum of these bytes: FNV-1a of 64 bits over words of eight bytes, the high byte first, the last one filled up
 /// with zeros. It tells a torn write from a whole one, and is no seal against forgers. Takes no memory.
 pub fn sum_of(bytes: &[u8]) -> u64
     ensures { result ≡ spec.sum_of bytes.now }
 {
-    let mut sum = 14_695_981_039_346_656_037u64;
+    let mut sum = BASIS;
     let mut rest = bytes;
     while rest.len() >= 8 {
         sum = mixed(sum, first_word(rest));
@@ -23,14 +26,14 @@ pub fn sum_of(bytes: &[u8]) -> u64
 }
 
 /// The sum with one word more.
-fn mixed(sum: u64, word: u64) -> u64
+pub(crate) fn mixed(sum: u64, word: u64) -> u64
     ensures { result ≡ spec.mixed sum word }
 {
     (sum ^ word).wrapping_mul(1_099_511_628_211)
 }
 
 /// The word of the first eight bytes.
-fn first_word(bytes: &[u8]) -> u64
+pub(crate) fn first_word(bytes: &[u8]) -> u64
     requires { 8 ≤ length bytes.now }
     ensures { result ≡ from_be_bytes w64 bytes.now }
 {
@@ -40,7 +43,7 @@ fn first_word(bytes: &[u8]) -> u64
 }
 
 /// The word of fewer than eight bytes, as if zeros stood behind them.
-fn last_word(bytes: &[u8]) -> u64
+pub(crate) fn last_word(bytes: &[u8]) -> u64
     ensures { result ≡ from_be_bytes w64 bytes.now }
 {
     u64::from_be_bytes([

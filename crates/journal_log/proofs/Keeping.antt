@@ -16,7 +16,7 @@ use Rattle.journal_log.specs.State.{LogState}
 use Rattle.journal_log.specs.declared.fault.LogFault.{LogFault}
 use Rattle.journal_log.specs.declared.fault.LogFault.TheVariants.{Ended, Failed, NoMemory}
 use Rattle.journal_log.specs.Since.{bytes_since}
-use Rattle.journal_log.specs.Kept.{AreOf, HasAll, HasDay, HasPages, TurnLogState}
+use Rattle.journal_log.specs.Kept.{AreOf, HasAll, HasDay, HasPages, StandsAt, TurnLogState}
 use Rattle.journal_log.proofs.GoesOn.{more-goes-on, same-end}
 use Rattle.journal_log.proofs.Read.{More}
 use Rattle.journal_log.proofs.Behind.{history-more, page-behind}
@@ -211,3 +211,11 @@ module _ {F : Type 0} (seen : F → List ℕ) (may_leave : F → List ℕ → Ty
           };
           has = rw (the-file, the-shut) it.kept;
         }
+
+    -- the same where the mark is taken of the history
+    pub put-marked : (new : TurnLogState F) → new.file ≡ file → new.shut ≡ shut → StandsAt now new
+        → HasDay seen may_leave now new
+    put-marked new the-file the-shut stands = record {
+      mark = stands;
+      has = rw (the-file, the-shut) (added bytes refl).kept;
+    }

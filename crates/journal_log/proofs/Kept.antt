@@ -1,8 +1,8 @@
 -- What a crash leaves of a log.
-use Rattle.std.proofs.Common.{◌≡◌, ℕ, List, [], ◌∷◌, ◌++◌, Result, Ok, Err, OnOk, refl, sym, ap, ◌∙◌, subst, append-nil}
+use Rattle.std.proofs.Common.{◌≡◌, ℕ, List, [], ◌∷◌, ◌++◌, Result, Ok, Err, OnOk, sym, ap, ◌∙◌, subst, append-nil}
 use Rattle.std.proofs.Common.{append_assoc}
 use Rattle.journal_pages.specs.declared.version.Version.TheVariants.{Two}
-use Rattle.journal_file.specs.File.{file_of, sized_page, sized_pages}
+use Rattle.journal_file.specs.File.{sized_page, sized_pages}
 use Rattle.journal_file.proofs.Files.{sized-more}
 use Rattle.journal_log.specs.Crash.{Follows, Only, StandsBefore}
 use Rattle.journal_log.specs.Log.{IsEnded, IsSettled, LeavesAtLeast}
@@ -27,6 +27,33 @@ pub three-more : (out a b t x y z : List ℕ) → x ≡ out ++ a → y ≡ x ++ 
 three-more out a b t x y z first second third =
     third ∙ ap (λ (l : List ℕ). l ++ t) (second ∙ ap (λ (l : List ℕ). l ++ b) first)
     ∙ append_assoc (out ++ a) b t ∙ append_assoc out a (b ++ t)
+
+pub four-more : (out a b n m w x y z : List ℕ) → w ≡ out ++ a → x ≡ w ++ b → y ≡ x ++ n → z ≡ y ++ m
+    → z ≡ out ++ ((a ++ b) ++ (n ++ m))
+four-more out a b n m w x y z first second third fourth =
+    fourth ∙ ap (λ (l : List ℕ). l ++ m) third ∙ append_assoc x n m
+    ∙ ap (λ (l : List ℕ). l ++ (n ++ m)) (second ∙ ap (λ (l : List ℕ). l ++ b) first ∙ append_assoc out a b)
+    ∙ append_assoc out (a ++ b) (n ++ m)
+
+-- what follows what follows
+pub follow-again : (old mid new : List ℕ → Type 0) → Follows StandsBefore old mid → Follows StandsBefore mid new
+    → Follows StandsBefore old new
+follow-again old mid new first second c left =
+    let one = second c left in
+    let two = first one.0 one.1 in (
+      two.0,
+      two.1,
+      record {
+        torn = two.2.torn ++ one.2.torn;
+        same = one.2.same ∙ ap (λ (l : List ℕ). l ++ one.2.torn) two.2.same
+            ∙ append_assoc two.0 two.2.torn one.2.torn;
+      },
+    )
+
+-- the head of a page, and the page behind it
+pub head-behind : (old sized front bytes new : List ℕ) → new ≡ old ++ ((sized ++ front) ++ bytes)
+    → new ≡ old ++ (sized ++ (front ++ bytes))
+head-behind old sized front bytes new is = is ∙ ap (λ (l : List ℕ). old ++ l) (append_assoc sized front bytes)
 
 module _ {F : Type 0} (seen : F → List ℕ) (may_leave : F → List ℕ → Type 0) where
   pub settled-more : (pages : List (List ℕ)) (page : List ℕ) (old new : F) → IsSettled seen may_leave pages old

@@ -8,7 +8,7 @@ use Rattle.gate_journal.specs.Tail.{AreLast}
 use Rattle.journal_days.specs.Cut.{last_size, next_number, texts}
 use Rattle.journal_days.specs.Day.{day_fault, day_records}
 use Rattle.journal_days.proofs.Leading.{From, Leads, behind, leads-of, start}
-use Rattle.journal_log.specs.Since.{IsBefore, bytes_from, bytes_since}
+use Rattle.journal_log.specs.Since.{IsBefore, bytes_from, bytes_of, bytes_since}
 use Rattle.journal_log.proofs.Behind.{records-count}
 
 pub texts-drop : (n : ℕ) (pages : List (Vec ℕ Global)) → texts (drop n pages) ≡ drop n (texts pages)
@@ -101,3 +101,8 @@ since-texts (suc n) bytes pages rest some is =
     let same : suc n - 1 ≡ n = omega arith in
     ap (λ (l : List (Vec ℕ Global)). bytes_from bytes (texts l)) (is ∙ ap (λ k. drop k pages) same)
     ∙ ap (bytes_from bytes) (texts-drop n pages)
+
+-- the bytes of whole pages
+pub all-pieces : (pages : List (List ℕ)) → bytes_from 12 pages ≡ bytes_of pages
+all-pieces [] = refl
+all-pieces (page ∷ pages) = refl

@@ -7,6 +7,7 @@ pub mod Whole
 pub mod Kept
 pub mod Marks
 pub mod Since
+pub mod Pieces
 pub use Rattle.journal_days.specs.Cut
 pub use Rattle.journal_file.specs.File
 pub use Rattle.journal_file.specs.Said

@@ -18,6 +18,7 @@ mod laws;
 mod log;
 mod mark;
 mod opening;
+mod pieces;
 mod sized;
 mod turn_log;
 

@@ -6,12 +6,14 @@ ghost use Rattle.journal_pages.specs.declared.version.Version.TheVariants.{Two};
 ghost use Rattle.journal_file.specs.File.{sized_page};
 ghost use Rattle.journal_log.specs.Crash.{Follows, Only, StandsBefore};
 ghost use Rattle.journal_log.specs.Log.{IsEnded, IsSettled, LeavesAtLeast};
+ghost use Rattle.journal_log.specs.Pieces.{bytes_ahead, page_of};
 ghost use Rattle.journal_log.specs.declared.fault.LogFault.{LogFault};
 ghost use Rattle.journal_log.specs.declared.fault.LogFault.TheVariants.{Ended, Failed, NoMemory};
 
 use crate::fault::{LogFault, WriteFault};
 use crate::file::LogFile;
-use crate::sized::append_sized;
+use crate::pieces::Pieces;
+use crate::sized::{append_head, append_sized};
 use std::alloc::Global;
 use std::marker::Model;
 
@@ -77,6 +79,23 @@ impl<F: LogFile> DayLog<F> {
         self.add(page)
     }
 
+    /// Adds a page of so many records before it and of these records, likewise, of which no copy is made: it is written
+    /// piece by piece, and synced once.
+    pub(crate) fn commit_pieces(&mut self, before: u64, pieces: Pieces<'_>) -> Result<(), LogFault>
+        ensures told { OnOk result ((pages : List (List ℕ)) → IsSettled F.seen F.may_leave pages self.old.file
+            → IsSettled F.seen F.may_leave (pages ++ page_of before pieces.entry ∷ []) self.new.file) }
+        ensures kept { (pages : List (List ℕ)) → IsSettled F.seen F.may_leave pages self.old.file
+            → LeavesAtLeast F.may_leave pages self.new.file }
+        ensures goes_on { OnOk result (self.new.shut ≡ None) }
+        ensures open { OnOk result (self.old.shut ≡ None) }
+        ensures failed { IsErrOf result Failed → self.new.shut ≡ Some Failed }
+        ensures ended { IsErrOf result Ended → self.old.shut ≡ Some Ended }
+        ensures no_memory { IsErrOf result NoMemory → self.new ≡ self.old }
+        ensures last { (fault : LogFault) → self.old.shut ≡ Some fault → (result ≡ Err fault) × (self.new ≡ self.old) }
+    {
+        self.add_pieces(before, pieces)
+    }
+
     /// Adds the end of a day that is over, likewise; the log takes nothing behind it.
     pub fn end(&mut self) -> Result<(), LogFault>
         ensures told { OnOk result ((pages : List (List ℕ)) → IsSettled F.seen F.may_leave pages self.old.file
@@ -126,6 +145,65 @@ impl<F: LogFile> DayLog<F> {
             }
         }
     }
+
+    /// Adds a page of so many records before it and of these records behind its length and its sum, and has it durable.
+    fn add_pieces(&mut self, before: u64, pieces: Pieces<'_>) -> Result<(), LogFault>
+        ensures added { OnOk result (F.seen self.new.file
+            ≡ F.seen self.old.file ++ sized_page Two (page_of before pieces.entry)) }
+        ensures durable { OnOk result (Only (F.seen self.new.file) (F.may_leave self.new.file)) }
+        ensures crash { Follows StandsBefore (F.may_leave self.old.file) (F.may_leave self.new.file) }
+        ensures goes_on { OnOk result (self.new.shut ≡ None) }
+        ensures open { OnOk result (self.old.shut ≡ None) }
+        ensures failed { IsErrOf result Failed → self.new.shut ≡ Some Failed }
+        ensures ended { IsErrOf result Ended → self.old.shut ≡ Some Ended }
+        ensures no_memory { IsErrOf result NoMemory → self.new ≡ self.old }
+        ensures last { (fault : LogFault) → self.old.shut ≡ Some fault → (result ≡ Err fault) × (self.new ≡ self.old) }
+    {
+        if let Some(fault) = self.shut {
+            return Err(fault);
+        }
+        self.bytes.clear();
+        append_head(&mut self.bytes, before, pieces)?;
+        match put_pieces(&mut self.file, self.bytes.as_slice(), pieces) {
+            Ok(()) => Ok(()),
+            Err(_) => {
+                self.shut = Some(LogFault::Failed);
+                Err(LogFault::Failed)
+            }
+        }
+    }
+}
+
+/// Adds bytes and pieces behind them to a file, and has all of them durable.
+fn put_pieces<F: LogFile>(
+    output: &mut F,
+    bytes: &[u8],
+    pieces: Pieces<'_>,
+) -> Result<(), WriteFault>
+    ensures added { OnOk result (F.seen output.new ≡ F.seen output.old ++ (bytes.now ++ bytes_ahead pieces.entry)) }
+    ensures durable { OnOk result (Only (F.seen output.new) (F.may_leave output.new)) }
+    ensures crash { Follows StandsBefore (F.may_leave output.old) (F.may_leave output.new) }
+    ensures cause { OnErr result (F.faults output.old < F.faults output.new) }
+{
+    output.append(bytes)?;
+    write_pieces(output, pieces)?;
+    output.sync()?;
+    Ok(())
+}
+
+/// Adds pieces to a file.
+fn write_pieces<F: LogFile>(file: &mut F, pieces: Pieces<'_>) -> Result<(), WriteFault>
+    ensures added { OnOk result (F.seen file.new ≡ F.seen file.old ++ bytes_ahead pieces.entry) }
+    ensures crash { Follows StandsBefore (F.may_leave file.old) (F.may_leave file.new) }
+    ensures earlier { F.faults file.old ≤ F.faults file.new }
+    ensures cause { OnErr result (F.faults file.old < F.faults file.new) }
+{
+    let mut rest = pieces;
+    while let Some((piece, behind)) = rest.split_first() {
+        file.append(piece)?;
+        rest = behind;
+    }
+    Ok(())
 }
 
 /// Adds bytes to a file, and has them durable.

@@ -1,18 +1,19 @@
 //! How far a history is in its log.
 
-ghost use Rattle.std.specs.Prelude.{◌≡◌, ◌%◌, ◌^◌, ◌+◌, ◌++◌, drop, length, IfOk, IfSome, OnOk};
+ghost use Rattle.std.specs.Prelude.{◌≡◌, ◌%◌, ◌^◌, ◌+◌, ◌++◌, length, IfOk, IfSome};
 ghost use Rattle.journal_days.specs.Cut as spec;
 ghost use Rattle.journal_days.specs.Cut.{texts};
 ghost use Rattle.journal_pages.specs.Page.{page_front, page_records};
 ghost use Rattle.journal_pages.specs.Seen.{records_ahead};
 ghost use Rattle.journal_pages.specs.declared.version.Version.TheVariants.{Two};
-ghost use Rattle.journal_log.specs.Since.{IsBefore, bytes_from, bytes_of, bytes_since};
+ghost use Rattle.journal_log.specs.Since.{IsBefore, bytes_since};
 
+use crate::pieces::Pieces;
 use journal_pages::Records;
 use std::alloc::{AllocError, Global};
 
 /// What a page begins with: the journal's name and version.
-const PAGE_NAME: &[u8; 4] = b"GJ02";
+pub(crate) const PAGE_NAME: &[u8; 4] = b"GJ02";
 
 /// So many bytes stand before the records of a page.
 pub(crate) const FRONT: usize = 12;
@@ -96,78 +97,10 @@ pub(crate) fn page_since(
     ensures { IfOk result (λ page. page.items
         ≡ page_front mark.now.records ++ bytes_since count mark.now.bytes (texts pages.now)) }
 {
-    let room = room_since(pages, count, mark.bytes);
-    let mut page = Vec::with_capacity(alloc, room)?;
+    let pieces = Pieces::since(pages, count, mark.bytes);
+    let mut page = Vec::with_capacity(alloc, pieces.size().saturating_add(FRONT))?;
     page.extend_from_slice(PAGE_NAME)?;
     page.extend_from_slice(&mark.records.to_be_bytes())?;
-    append_since(&mut page, pages, count, mark.bytes)?;
+    pieces.append_to(&mut page)?;
     Ok(page)
-}
-
-/// How many bytes a page takes of the records that these pages have behind so many, of the last of which so many bytes
-/// count; a few more where that are several pages.
-fn room_since(pages: &[Vec<u8>], count: usize, bytes: usize) -> usize {
-    let mut size = 0_usize;
-    for page in pages_behind(pages, count.saturating_sub(1)) {
-        size = size.saturating_add(page.len());
-    }
-    size.saturating_sub(bytes).saturating_add(FRONT)
-}
-
-/// The records that these pages have behind so many, of the last of which so many bytes count.
-fn append_since(
-    out: &mut Vec<u8>,
-    pages: &[Vec<u8>],
-    count: usize,
-    bytes: usize,
-) -> Result<(), AllocError>
-    ensures { OnOk result (out.new.items ≡ out.old.items ++ bytes_since count bytes (texts pages.now)) }
-{
-    if count == 0 {
-        return append_pages(out, pages);
-    }
-    append_from(out, pages_behind(pages, count - 1), bytes)
-}
-
-/// The pages behind so many.
-fn pages_behind(pages: &[Vec<u8>], count: usize) -> &[Vec<u8>]
-    ensures { result.now ≡ drop count pages.now }
-{
-    match pages.get(count..) {
-        Some(rest) => rest,
-        None => &[],
-    }
-}
-
-/// The records of these pages, of the first one those behind so many of its bytes.
-fn append_from(out: &mut Vec<u8>, pages: &[Vec<u8>], bytes: usize) -> Result<(), AllocError>
-    ensures { OnOk result (out.new.items ≡ out.old.items ++ bytes_from bytes (texts pages.now)) }
-{
-    let Some((page, behind)) = pages.split_first() else {
-        return Ok(());
-    };
-    append_behind(out, page.as_slice(), bytes)?;
-    append_pages(out, behind)
-}
-
-/// The records of these pages.
-fn append_pages(out: &mut Vec<u8>, pages: &[Vec<u8>]) -> Result<(), AllocError>
-    ensures { OnOk result (out.new.items ≡ out.old.items ++ bytes_of (texts pages.now)) }
-{
-    let mut rest = pages;
-    while let Some((page, behind)) = rest.split_first() {
-        append_behind(out, page.as_slice(), FRONT)?;
-        rest = behind;
-    }
-    Ok(())
-}
-
-/// The bytes of a page behind so many.
-fn append_behind(out: &mut Vec<u8>, page: &[u8], bytes: usize) -> Result<(), AllocError>
-    ensures { OnOk result (out.new.items ≡ out.old.items ++ drop bytes page.now) }
-{
-    match page.get(bytes..) {
-        Some(rest) => out.extend_from_slice(rest),
-        None => Ok(()),
-    }
 }

@@ -7,15 +7,21 @@ ghost use Rattle.gate_journal.specs.Kept.{kept_in};
 ghost use Rattle.journal_days.specs.Cut.{IsMoreOf};
 ghost use Rattle.journal_log.specs.Log.{IsSettled};
 ghost use Rattle.journal_log.specs.Kept.{EndsAt, HasDay, HasEnd, HasPages, StandsAt};
+ghost use Rattle.journal_log.specs.Pieces.{bytes_ahead};
+ghost use Rattle.journal_log.specs.Since.{bytes_since};
 
 use crate::comparing::mark_of;
 use crate::fault::LogFault;
 use crate::file::LogFile;
 use crate::log::DayLog;
 use crate::mark::{FRONT, HistoryMark, count_before, count_in_page, mark_at, page_since};
+use crate::pieces::Pieces;
 use gate_journal::{GrowingHistory, RecentPages};
 use std::alloc::Global;
 use std::marker::Model;
+
+/// More bytes than so many aren't copied into a page of their own: they are written as they lie.
+const LONGEST_COPIED: usize = 131_072;
 
 /// The log of a history that grows: how far it has it, and the log's file. Contracts see both.
 #[derive(Drop)]
@@ -89,6 +95,10 @@ impl<F: LogFile> TurnLog<F> {
         let Some(count) = count_before(&self.mark, left) else {
             return Err(LogFault::NoMemory);
         };
+        let pieces = Pieces::since(pages, count, self.mark.bytes);
+        if pieces.size() > LONGEST_COPIED {
+            return self.keep_long(history, pieces);
+        }
         let page = page_since(alloc, pages, count, &self.mark)?;
         put_page(&mut self.log, page.as_slice())?;
         let records = self
@@ -96,6 +106,23 @@ impl<F: LogFile> TurnLog<F> {
             .records
             .wrapping_add(count_in_page(page.as_slice()));
         self.mark = mark_at(left, pages, records);
+        Ok(())
+    }
+
+    /// The same of what the log didn't have yet, which it writes where it lies.
+    fn keep_long(&mut self, history: &GrowingHistory, pieces: Pieces<'_>) -> Result<(), LogFault>
+        requires some { 1 ≤ length (bytes_ahead pieces) }
+        requires since { bytes_ahead pieces ≡ bytes_since self.old.pages self.old.bytes history.now.pages }
+        ensures told { OnOk result ((before : List (List ℕ)) → HasDay F.seen F.may_leave before self.old
+            → IsMoreOf before history.now.pages → HasDay F.seen F.may_leave history.now.pages self.new) }
+        ensures kept { OnErr result ((before : List (List ℕ)) → HasDay F.seen F.may_leave before self.old
+            → HasDay F.seen F.may_leave before self.new) }
+        ensures failed { IsErrOf result Failed → self.new.shut ≡ Some Failed }
+        ensures over { IsErrOf result Ended → self.old.shut ≡ Some Ended }
+        ensures open { OnOk result (self.new.shut ≡ self.old.shut) }
+    {
+        self.log.commit_pieces(self.mark.records, pieces)?;
+        self.mark = mark_of(history);
         Ok(())
     }
 

@@ -6,6 +6,7 @@ use Rattle.std.proofs.lemmas.List.{length-map}
 use Rattle.journal_days.specs.Cut.{texts}
 use Rattle.journal_log.specs.State.{LogState}
 use Rattle.journal_log.specs.Kept.{HasDay, TurnLogState}
+use Rattle.journal_log.specs.Since.{bytes_since}
 use Rattle.journal_log.proofs.Keeping.{put-day, same-day}
 use Rattle.journal_log.proofs.Recent.{last-count, last-sized, since-last}
 use Rattle.journal_log.proofs.turn_log.TurnLog.keep.Goals as goal
@@ -15,6 +16,15 @@ returns-then-has_all-clause-told g c before has more =
     let ends = c.has_all.ensures c.if-has_all.true in
     same-day g.F.LogFile.seen g.F.LogFile.may_leave before c.args.history.now.pages c.args.self.now more ends.pages
     ends.bytes has
+
+pub keep_long-requires-clause-since : goal.keep_long-requires-clause-since
+keep_long-requires-clause-since g c =
+    let pages : List (Vec ℕ Global) = c.recent-left.result.pages.now in
+    let all : List (List ℕ) = c.args.history.now.pages in
+    c.since-pieces.ensures
+    ∙ sym (since-last c.recent-left.result.left (texts pages) all c.self.inside.mark.pages c.in-Some.count
+    c.self.inside.mark.bytes c.recent-left.ensures.last c.in-Some.ensures)
+    ∙ ap (λ (l : TurnLogState g.row.F.Denot). bytes_since l.pages l.bytes all) c.self.view_is
 
 pub returns-clause-told : goal.returns-clause-told
 returns-clause-told g c before has more =
