@@ -4,9 +4,12 @@ ResendRequest?
 C1 has 10,002 reports kept, and has read them. It comes again, asks once for all of them, and reads nothing for a
 second: the answer lies in the gateway, but for what the system buffers of it. Then it reads it, and last it gets a
 Heartbeat. Shown is by how much the gateway's memory has grown since C1 asked: at most (VmHWM), and behind each of these
-(VmRSS). What the day's history has more in memory stays anyway; beside that it takes 1.2 of the answer's bytes at most.
+(VmRSS). The day's history has the answer, too; beside that it takes 1.2 of the answer's bytes at most. Then C1 asks a
+second time, and reads it: by so much the memory grows once more at most.
+
 All is played with a journal that is never synced, so that the history's older pages leave memory within a tenth of a
-second, and without one. The status is 0 where all of it is so.
+second, and without one. The process keeps what they leave, for what comes next: so with a journal a second answer takes
+no more than 1.2 of its bytes with its history. The status is 0 where all of it is so.
 
 With --sites it is played below `valgrind --tool=dhat` instead, for a minute, and shown is what the gateway has of the
 heap beyond what it had before, by who took it: as it had most of all, and behind each of these."""
@@ -107,11 +110,23 @@ def measured(steps, gateway, address, journal, history):
     note()
     history = journal.stat().st_size - written if journal else history
     print(f"{before} bytes before; the history has {history} more then")
-    stays = 0 if journal else history
-    for moment, more, beside in [("at most", max(most), history), *zip(MOMENTS, grown, [stays] * 3)]:
-        ratio = (more - beside) / size
+    for moment, more in [("at most", max(most)), *zip(MOMENTS, grown)]:
+        ratio = (more - history) / size
         steps.is_so(f"{moment}: {more} bytes more, {ratio:.2f} of the answer beside the history", ratio <= MOST)
+    more = again_at_most(steps, gateway, client, count)
+    ratio = (more - (0 if journal else history)) / size
+    beside = "with" if journal else "beside"
+    steps.is_so(f"a second time: {more} bytes more at most, {ratio:.2f} of it {beside} the history", ratio <= MOST)
     return history
+
+
+def again_at_most(steps, gateway, client, count):
+    """By how much the memory grows at most while the client asks a second time and reads the answer."""
+    before = memory(gateway, "VmRSS")
+    forget_most(gateway)
+    ask(client, 1.0)
+    read(steps, client, count)
+    return memory(gateway, "VmHWM") - before
 
 
 def up_to(moment):
