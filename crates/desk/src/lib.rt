@@ -16,6 +16,6 @@ pub use gate_events::Recipient;
 pub use gate_journal::{GrowingHistory, History, OpenLink};
 pub use journal_log::{HostFile, LogFault, StoppedLog};
 pub use opening::{Parts, open_desk};
-pub use outlet_set::{OutletSet, WriteOutput};
+pub use outlet_set::OutletSet;
 pub use replaying::{ReplayFault, Replayed};
 pub use shared::{Shared, Turns};

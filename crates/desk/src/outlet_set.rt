@@ -3,8 +3,6 @@
 ghost use Rattle.std.specs.Prelude.{◌≡◌, ◌<◌, true, bit_or};
 ghost use Rattle.std.specs.Int.{bit_at};
 
-use std::alloc::Global;
-
 /// Outlets for which there is output, by position.
 #[derive(Clone, Copy, Debug, PartialEq, Eq)]
 pub struct OutletSet {
@@ -43,10 +41,4 @@ impl OutletSet {
     {
         position < 128 && self.bits >> position & 1 == 1
     }
-}
-
-/// Who writes the output of outlets.
-pub trait WriteOutput {
-    /// Writes what lies there for these outlets. It is called while nobody need wait for the desk's lock.
-    fn write_output(&self, alloc: Global, with_output: OutletSet);
 }

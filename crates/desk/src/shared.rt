@@ -2,7 +2,7 @@
 
 ghost use Rattle.std.specs.Prelude.{◌≡◌, [], List, length, vec_len};
 
-use crate::outlet_set::{OutletSet, WriteOutput};
+use crate::outlet_set::OutletSet;
 use crate::replaying::{ReplayFault, Replayed, begin, let_go, put, replay};
 use desk_rings::{DeskName, Finished, Inlet, Outlet};
 use desk_steps::{Closed, Desk, Status, Turned};
@@ -92,22 +92,24 @@ impl<K: DeskName, S: BuildHasher + Drop> Shared<K, S> {
     /// A round (`Desk::round`) under the lock. Wakes the outlets that were told something, once the lock is free.
     pub fn turn(&self, rt: &impl Wait, alloc: Global) -> Result<Turned, AllocError> {
         let (turned, with_output) = self.turn_locked(rt, alloc)?;
-        self.write_output(alloc, with_output);
+        self.wake_each(with_output);
         Ok(turned)
     }
 
     /// Has so many rounds made, or fewer where one makes no step, eight at a time under the lock. Behind each eight,
-    /// the lock free, `writer` writes what they told: all that eight rounds told an outlet lies there then.
+    /// the lock free, `write` is called with the outlets that they told something: all of it lies there then.
     ///
-    /// It waits for nobody but `writer`. Where another thread has the lock, that one makes rounds until one makes no
+    /// It waits for nobody but `write`. Where another thread has the lock, that one makes rounds until one makes no
     /// step once it is free, and none is counted here. `AllocError` comes only where memory is refused for an event and
     /// no round made a step.
-    pub fn turns<T: WriteOutput>(
+    pub fn turns<F: Fn(OutletSet)>(
         &self,
         alloc: Global,
         wanted: u32,
-        writer: &T,
-    ) -> Result<Turns, AllocError> {
+        write: F,
+    ) -> Result<Turns, AllocError>
+        requires { F.IsAlwaysCallable write }
+    {
         let mut turns = Turns {
             rounds: 0,
             steps: 0,
@@ -127,7 +129,7 @@ impl<K: DeskName, S: BuildHasher + Drop> Shared<K, S> {
             let made = rounds(desk, alloc, left.min(most), &mut turns);
             let with_output = self.outlets_with_output(desk, alloc);
             drop(guard);
-            writer.write_output(alloc, with_output);
+            write(with_output);
             self.note_memory(&made);
             left = match made {
                 Ok(made) if made.is_all => left.saturating_sub(most),
@@ -318,7 +320,7 @@ impl<K: DeskName, S: BuildHasher + Drop> Shared<K, S> {
     /// by `is_memory_refused`.
     pub fn turns_wanted(&self, alloc: Global) {
         if self.wanted.load(Ordering::SeqCst) {
-            let _ = self.turns(alloc, 1, self);
+            let _ = self.turns(alloc, 1, |with_output| self.wake_each(with_output));
         }
     }
 
@@ -346,7 +348,7 @@ impl<K: DeskName, S: BuildHasher + Drop> Shared<K, S> {
 
     /// Wakes these outlets, the last one first: ports stand behind clients, and what a port is told is what its market
     /// waits for.
-    fn wake_each(&self, with_output: OutletSet) {
+    pub fn wake_each(&self, with_output: OutletSet) {
         if with_output.is_empty() {
             return;
         }
@@ -426,13 +428,6 @@ impl<K: DeskName, S: BuildHasher + Drop> Shared<K, S> {
             },
             Err(error) => Err((error, Shared::new(desk, wakers), finished)),
         }
-    }
-}
-
-impl<K: DeskName, S: BuildHasher + Drop> WriteOutput for Shared<K, S> {
-    /// Wakes them: their writers write it.
-    fn write_output(&self, _alloc: Global, with_output: OutletSet) {
-        self.wake_each(with_output);
     }
 }
 

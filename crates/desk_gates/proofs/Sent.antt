@@ -16,7 +16,6 @@ use Rattle.desk.specs.desk_rings.declared.name.DeskName as DeskName
 use Rattle.desk_gates.specs.contracts.inlet.InletGate as InletGate
 use Rattle.desk_gates.specs.contracts.outlet.OutletGate as OutletGate
 use Rattle.desk_gates.specs.contracts.outlet_writer.OutletWriter as OutletWriter
-use Rattle.desk_gates.specs.contracts.outlet_writers.OutletWriters as OutletWriters
 
 module _ (K S T : RattleType) (k : DeskName.Ghosts K.Denot) (g : BuildHasher.Ghosts S.Denot T.Denot)
     (h : Hasher.Ghosts T.Denot) (ss : IsSend S) where
@@ -40,17 +39,12 @@ module _ (W G : RattleType) (p : Prompt.Ghosts W.Denot) (w : Write.Ghosts W.Deno
 
   module _ (K S T : RattleType) (k : DeskName.Ghosts K.Denot) (g : BuildHasher.Ghosts S.Denot T.Denot)
       (h : Hasher.Ghosts T.Denot) (ss : IsSend S) where
-    outlet_writers_send : (q a : NamedLft) → IsSend (OutletWriters.the_row q a W G K S T p w t k g h)
-    outlet_writers_send q a = let shared = shared_sync K S T k g h ss in declared_send
-        (OutletWriters.the_type q a W G K S T p w t k g h)
-        (search (shared, sendable) depth 40, (search (outlet_writer_sync, sendable, crosses) depth 40, tt))
-
     pub inlet_gate_send : (q a : NamedLft) → IsSend (InletGate.the_row q a W G K S T p w t k g h)
     inlet_gate_send q a = let shared = shared_sync K S T k g h ss in declared_send
         (InletGate.the_type q a W G K S T p w t k g h) (
           search (shared, sendable) depth 40,
           (
-            search (outlet_writers_send, sendable) depth 40,
+            search (outlet_writer_sync, sendable, crosses) depth 40,
             (search (inlet_send, sendable) depth 40, (search sendable depth 40, tt)),
           ),
         )

@@ -1,8 +1,7 @@
 //! A reader's handle to the desk.
 
 use crate::outlet_writer::OutletWriter;
-use crate::outlet_writers::OutletWriters;
-use desk::{DeskName, Finished, Inlet, Shared};
+use desk::{DeskName, Finished, Inlet, OutletSet, Shared};
 use gate_events::{Event, LinkOut, Recipient, ShortList};
 use link_io::{Gate, Prompt};
 use std::alloc::{AllocError, Global};
@@ -25,7 +24,7 @@ pub struct InletGate<
     S: BuildHasher + Drop = BuildHasherDefault<FoldHasher>,
 > {
     shared: &'a Shared<K, S>,
-    outlet_writers: OutletWriters<'p, 'a, W, G, K, S>,
+    outlet_writers: &'p [OutletWriter<W, G>],
     inlet: Inlet<K>,
     /// The events that were put, less the turns that were made: never more than `MOST_TURNS`.
     owed: u32,
@@ -52,7 +51,7 @@ impl<'p, 'a, W: Prompt + Drop, G: Gate + Drop, K: DeskName, S: BuildHasher + Dro
     {
         InletGate {
             shared,
-            outlet_writers: OutletWriters::new(shared, outlet_writers),
+            outlet_writers,
             inlet,
             owed: 0,
         }
@@ -69,6 +68,20 @@ impl<'p, 'a, W: Prompt + Drop, G: Gate + Drop, K: DeskName, S: BuildHasher + Dro
             owed: _,
         } = self;
         inlet.finish()
+    }
+
+    /// Writes the output of these outlets, by one prompt write each, the last outlet first: ports stand behind clients,
+    /// and a market waits for what its port is sent. If a writer is held, or not all could be written, the outlet is
+    /// woken, and its own thread goes on.
+    fn write(&self, alloc: Global, with_output: OutletSet) {
+        if with_output.is_empty() {
+            return;
+        }
+        for at in (0..self.outlet_writers.len()).rev() {
+            if with_output.contains(at) && !self.outlet_writers[at].write(alloc) {
+                self.shared.wake(at);
+            }
+        }
     }
 }
 
@@ -109,9 +122,11 @@ impl<'p, 'a, W: Prompt + Drop, G: Gate + Drop, K: DeskName, S: BuildHasher + Dro
     /// they produced. If another thread has the desk's lock, that one does so (`Shared::turns`); nothing is waited for
     /// but a prompt write.
     fn turn<R: Wait>(&mut self, _rt: &R, alloc: Global) -> Result<u32, AllocError> {
-        let turns = self
-            .shared
-            .turns(alloc, self.owed.max(1), &self.outlet_writers)?;
+        let turns = self.shared.turns(
+            alloc,
+            self.owed.max(1),
+            |with_output| self.write(alloc, with_output),
+        )?;
         self.owed = self.owed.saturating_sub(turns.rounds);
         Ok(turns.steps)
     }

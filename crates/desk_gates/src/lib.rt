@@ -5,7 +5,6 @@
 mod inlet;
 mod outlet;
 mod outlet_writer;
-mod outlet_writers;
 mod waker;
 
 pub use inlet::InletGate;

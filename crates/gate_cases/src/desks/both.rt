@@ -90,7 +90,7 @@ fn put_all<K: DeskName>(alloc: Global, shared: &Shared<K>, inlet: Inlet<K>) -> I
         if event.is_from(&inlet.source()) {
             let _ = inlet.put(event);
         }
-        let _ = shared.turns(alloc, 1, shared);
+        let _ = shared.turns(alloc, 1, |with_output| shared.wake_each(with_output));
     }
     inlet
 }

@@ -177,7 +177,11 @@ fn turns<K: DeskName>(
     most: u16,
     shown: &mut Vec<u8>,
 ) -> Result<(), AllocError> {
-    let turns = shared.turns(alloc, u32::from(most), shared)?;
+    let turns = shared.turns(
+        alloc,
+        u32::from(most),
+        |with_output| shared.wake_each(with_output),
+    )?;
     show(shown, "rounds", u64::from(turns.rounds))?;
     show(shown, "steps", u64::from(turns.steps))
 }
