@@ -3,8 +3,8 @@ use Rattle.std.specs.Prelude.{◌≡◌, ◌⊎◌, ℕ, ◌≤◌, ◌+◌, Boo
 use Rattle.gate_law.specs.Events.{Event, LinkOut, ClientUp, ClientGone, PortUp, PortGone}
 use Rattle.gate_events.specs.declared.source.Recipient.{Recipient}
 use Rattle.gate_events.specs.declared.source.Recipient.TheVariants as recipients
-use Rattle.gate_workers.specs.link_io.Decoding.{AreAllOfFrames, AreAllOfPackets, FramesOfLink, MadeOfFrames}
-use Rattle.gate_workers.specs.link_io.Decoding.{MadeOfPackets, PacketsOfLink}
+use Rattle.gate_workers.specs.Decoding.{AreAllOfFrames, AreAllOfPackets, FramesOfLink, MadeOfFrames}
+use Rattle.gate_workers.specs.Decoding.{MadeOfPackets, PacketsOfLink}
 use Rattle.gate_workers.specs.link_io.declared.link_fault.LinkFault.{LinkFault}
 use Rattle.gate_workers.specs.declared.writer.WriterEnd.{WriterEnd}
 use Rattle.gate_workers.specs.ReadersWork.{ReadsLink}

@@ -2,7 +2,8 @@
 use Rattle.std.proofs.Common.{◌≡◌, ℕ, ◌++◌, List, [], ◌∷◌, Option, None, refl, sym, ◌∙◌, ap, subst, append_assoc}
 use Rattle.std.proofs.Common.{append-nil}
 use Rattle.link_io.specs.Events.{Event}
-use Rattle.link_io.specs.Reading.{AreAt, event_moment, offered_list}
+use Rattle.link_decoders.specs.Making.{event_moment}
+use Rattle.link_io.specs.Reading.{AreAt, offered_list}
 use Rattle.gate_workers.specs.Moments.{AreAsReported, ComesAsReported}
 
 -- later moments may have been reported

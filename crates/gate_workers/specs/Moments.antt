@@ -2,7 +2,8 @@
 use Rattle.std.specs.Prelude.{◌≡◌, ℕ, ◌++◌, List, [], ◌∷◌, Option, Some, None}
 use Rattle.std.specs.Io.KnownBytes.{Appends}
 use Rattle.link_io.specs.Events.{Event}
-use Rattle.link_io.specs.Reading.{event_moment, offered_list}
+use Rattle.link_decoders.specs.Making.{event_moment}
+use Rattle.link_io.specs.Reading.{offered_list}
 
 -- a clock reported these moments more, in order, where it is known which it tells
 abbrev pub Tells : (reported_old reported_new : Option (List ℕ)) → (moments : List ℕ) → Type 0

@@ -4,15 +4,16 @@ ghost use Rattle.std.specs.Prelude.{◌≡◌, ◌≤◌, ◌++◌, ◌∷◌, [
 ghost use Rattle.std.specs.Io.KnownBytes.{Consumes};
 ghost use Rattle.link_io.specs.Events as law;
 ghost use Rattle.link_io.specs.Seen.{event_seen};
-ghost use Rattle.link_io.specs.Decoding.{AreAllOfFrames, AreAllOfPackets, FramesOfLink, MadeOfFrames, MadeOfPackets};
-ghost use Rattle.link_io.specs.Decoding.{PacketsOfLink};
+ghost use Rattle.link_decoders.specs.Decoding.{AreAllOfFrames, AreAllOfPackets, FramesOfLink, MadeOfFrames, MadeOfPackets};
+ghost use Rattle.link_decoders.specs.Decoding.{PacketsOfLink};
 ghost use Rattle.gate_workers.specs.ReadersWork.{HasReadAll, ReadsLink};
 
 use crate::clock::Clock;
 use crate::ending::ends_link;
 use crate::skips::Skips;
 use gate_events::{ClientNumber, Event, PortNumber};
-use link_io::{ClientReader, Decoder, Gate, LinkFault, PortReader, Progress, Reader};
+use link_decoders::Decoder;
+use link_io::{ClientReader, Gate, LinkFault, PortReader, Progress, Reader};
 use std::alloc::Global;
 use std::io::Read;
 use std::sync::Wait;

@@ -14,7 +14,8 @@ use Rattle.link_io.specs.declared.progress.Progress.{Progress}
 use Rattle.link_io.specs.declared.progress.Progress.TheVariants.{Read, Ended, Held}
 use Rattle.link_io.specs.Reading.{Reading, AreAt, Gave, ComesFirst, Goes, GoesThrough, Offers, offered_list}
 use Rattle.link_io.specs.Reading.{FeedsPiece, MakesNext, SaysPut, HasPut, Puts, SaysRead, Reads}
-use Rattle.link_io.specs.Reading.{HasNothing, MadeAll, PutsMade, PutsNothing, event_moment}
+use Rattle.link_decoders.specs.Making.{MadeAll, event_moment}
+use Rattle.link_io.specs.Reading.{HasNothing, PutsMade, PutsNothing}
 use Rattle.link_io.specs.Reading.{Fills}
 
 -- what a `?` hands on

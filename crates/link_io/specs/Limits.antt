@@ -1,5 +1,6 @@
 -- How many steps a link's engine still makes, and the fault with which its link ended.
 use Rattle.std.specs.Prelude.{◌≡◌, ℕ, ◌-◌, ◌==◌, Option, Some, None, Result, Ok, Err, if◌then◌else◌}
+use Rattle.link_decoders.specs.declared.decode_fault.DecodeFault as decoding
 use Rattle.link_io.specs.declared.limit.Limit.{Limit}
 use Rattle.link_io.specs.declared.link_fault.LinkFault.{LinkFault}
 use Rattle.link_io.specs.declared.link_fault.LinkFault.TheVariants.{ReadFailed, WriteFailed, Malformed, StepLimit}
@@ -11,6 +12,11 @@ fault_number WriteFailed = 2
 fault_number Malformed = 3
 fault_number StepLimit = 4
 fault_number NoMemory = 5
+
+-- the fault of a link whose decoder made no further event
+abbrev pub of_decoding : decoding.DecodeFault → LinkFault
+of_decoding decoding.TheVariants.Malformed = Malformed
+of_decoding decoding.TheVariants.NoMemory = NoMemory
 
 -- the fault with which a link ends that had this one in a step: none where only memory ran out
 abbrev pub end_by : LinkFault → Option LinkFault

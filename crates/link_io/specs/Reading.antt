@@ -3,8 +3,7 @@ use Rattle.std.specs.Prelude.{◌≡◌, ℕ, ◌≤◌, ◌<◌, ◌++◌, Bool
 use Rattle.std.specs.Prelude.{◌∷◌, length, Option, Some, None, Result, Ok, Err, IsSome}
 use Rattle.std.specs.Io.KnownBytes.{Consumes, Keeps, IsAtEnd}
 use Rattle.gate_law.specs.Events as law
-use Rattle.gate_events.specs.declared.event.Event.{Event}
-use Rattle.gate_events.specs.Seen.{event_seen}
+use Rattle.link_decoders.specs.Making.{Makes, event_moment}
 use Rattle.link_io.specs.declared.limit.Limit.{Limit}
 use Rattle.link_io.specs.declared.link_fault.LinkFault.{LinkFault}
 use Rattle.link_io.specs.declared.link_fault.LinkFault.TheVariants.{ReadFailed, WriteFailed, Malformed, StepLimit}
@@ -23,39 +22,6 @@ Fills (Err WriteFailed) piece left_old left_new = ⊥
 Fills (Err Malformed) piece left_old left_new = ⊥
 Fills (Err StepLimit) piece left_old left_new = ⊥
 Fills (Err NoMemory) piece left_old left_new = ⊥
-
--- ---- what makes events: `made` and `are_all` say what was made of which bytes
-
--- what was made stays so, and no more was
-abbrev pub Stays : {D : Type 0} → (D → List ℕ → List law.Event → Type 0) → D → D → Type 0
-Stays made old new = (taken : List ℕ) (events : List law.Event) → made old taken events → made new taken events
-
--- bytes are taken
-abbrev pub Feeds : {D : Type 0} → (D → List ℕ → List law.Event → Type 0) → List ℕ → D → D → Type 0
-Feeds made piece old new =
-    (taken : List ℕ) (events : List law.Event) → made old taken events → made new (taken ++ piece) events
-
--- no further event is made: those that were are all
-abbrev pub MadeAll : {D : Type 0} → (D → List ℕ → List law.Event → Type 0) → (D → Bool → List ℕ → List law.Event
-    → Type 0)
-    → Bool → D → D → Type 0
-MadeAll made are_all over old new =
-    (taken : List ℕ) (events : List law.Event) → made old taken events → made new taken events
-    × are_all new over taken events
-
--- the next event is made, where there is one
-abbrev pub Makes : {D : Type 0} → (D → List ℕ → List law.Event → Type 0) → (D → Bool → List ℕ → List law.Event → Type 0)
-    → (D → ℕ) → Result (Option Event) LinkFault → D → D → Type 0
-Makes made are_all to_make (Ok (Some event)) old new =
-    ((taken : List ℕ) (events : List law.Event) → made old taken events
-    → made new taken (events ++ event_seen event ∷ []))
-    × (to_make new < to_make old)
-Makes made are_all to_make (Ok None) old new = MadeAll made are_all false old new
-Makes made are_all to_make (Err Malformed) old new = MadeAll made are_all true old new
-Makes made are_all to_make (Err NoMemory) old new = Stays made old new
-Makes made are_all to_make (Err ReadFailed) old new = ⊥
-Makes made are_all to_make (Err WriteFailed) old new = ⊥
-Makes made are_all to_make (Err StepLimit) old new = ⊥
 
 -- ---- a reader
 
@@ -77,17 +43,6 @@ abbrev pub Gave : {D : Type 0} → (D → List ℕ → List law.Event → Type 0
     → (put : List law.Event) → Reading D → Type 0
 Gave made read put r =
     (taken : List ℕ) × (read ≡ taken ++ r.piece) × made r.decoder taken (put ++ offered_list r.offered)
-
--- the moment of an event, in milliseconds
-abbrev pub event_moment : law.Event → ℕ
-event_moment (law.ClientUp client link at) = at
-event_moment (law.ClientMessage client link at frame) = at
-event_moment (law.ClientGone client link at) = at
-event_moment (law.ClientTick client at) = at
-event_moment (law.PortUp port link at) = at
-event_moment (law.PortPacket port link at packet) = at
-event_moment (law.PortGone port link at) = at
-event_moment (law.PortTick port at) = at
 
 -- each has this moment
 abbrev pub AreAt : ℕ → List law.Event → Type 0

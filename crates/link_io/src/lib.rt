@@ -4,25 +4,19 @@
 //! Source: FIX 4.4 Volume 1, "Message Format"; SoupBinTCP 3.00, "Logical Packets".
 #![tactic(auto)]
 
-mod client_frames;
-mod decoder;
 mod gate;
 mod limit;
 mod link_fault;
 mod next;
 mod piece;
-mod port_packets;
 mod progress;
 mod reader;
 mod sent_notes;
 mod streams;
 mod writer;
 
-pub use client_frames::ClientFrames;
-pub use decoder::Decoder;
 pub use gate::Gate;
 pub use link_fault::LinkFault;
-pub use port_packets::PortPackets;
 pub use progress::Progress;
 pub use reader::{ClientReader, PortReader, Reader};
 pub use streams::{Prompt, Sink, Source};

@@ -1,9 +1,10 @@
 //! Why a step of a link's engine failed.
 
 ghost use Rattle.std.specs.Prelude.{◌≡◌};
-ghost use Rattle.link_io.specs.Limits.{fault_number};
+ghost use Rattle.link_io.specs.Limits.{fault_number, of_decoding};
 ghost use Rattle.link_io.specs.declared.link_fault.LinkFault.TheVariants.{NoMemory};
 
+use link_decoders::DecodeFault;
 use std::alloc::{AllocError, AllocFailed};
 use thiserror::Error;
 
@@ -38,6 +39,17 @@ impl LinkFault {
             LinkFault::Malformed => 3,
             LinkFault::StepLimit => 4,
             LinkFault::NoMemory => 5,
+        }
+    }
+}
+
+impl From<DecodeFault> for LinkFault {
+    ghost from_gives = { λ fault given. given ≡ of_decoding fault };
+
+    fn from(fault: DecodeFault) -> LinkFault {
+        match fault {
+            DecodeFault::Malformed => LinkFault::Malformed,
+            DecodeFault::NoMemory => LinkFault::NoMemory,
         }
     }
 }

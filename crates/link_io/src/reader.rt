@@ -5,20 +5,18 @@ ghost use Rattle.gate_events.specs.Seen.{event_seen};
 ghost use Rattle.link_io.specs.Limits.{refusal, limit_after};
 ghost use Rattle.link_io.specs.Reading.{FeedsPiece, Gave, HasNothing, Offers, Puts, PutsNext, Reads};
 ghost use Rattle.link_io.specs.Answered.{ReadsBy};
-ghost use Rattle.link_io.specs.Decoding.{MadeOfFrames, MadeOfPackets};
+ghost use Rattle.link_decoders.specs.Decoding.{MadeOfFrames, MadeOfPackets};
 ghost use Rattle.link_io.specs.declared.link_fault.LinkFault.{LinkFault as Fault};
 
-use crate::client_frames::ClientFrames;
-use crate::decoder::Decoder;
 use crate::gate::Gate;
 use crate::limit::Limit;
 use crate::link_fault::LinkFault;
 use crate::next::Next;
 use crate::piece::Piece;
-use crate::port_packets::PortPackets;
 use crate::progress::Progress;
 use crate::streams::Source;
 use gate_events::{ClientNumber, Event, PortNumber};
+use link_decoders::{ClientFrames, Decoder, PortPackets};
 use std::alloc::{AllocError, Global};
 use std::marker::Model;
 
@@ -295,7 +293,7 @@ impl<D: Decoder> Reader<D> {
                 }
                 None => Ok(Next::Nothing),
             },
-            Err(fault) => Err(fault),
+            Err(fault) => Err(LinkFault::from(fault)),
         }
     }
 }

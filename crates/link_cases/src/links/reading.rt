@@ -7,7 +7,8 @@ use super::recorded::Form;
 use super::streams::Pieces;
 use super::tally::Tally;
 use gate_events::{ClientNumber, Event, PortNumber};
-use link_io::{ClientReader, Decoder, LinkFault, PortReader, Progress, Reader};
+use link_decoders::Decoder;
+use link_io::{ClientReader, LinkFault, PortReader, Progress, Reader};
 use seeded_choices::Chance;
 use std::alloc::{AllocError, Global};
 

@@ -1,6 +1,6 @@
 use Rattle.std.proofs.Common.{◌≡◌, ◌∙◌, ap, ℕ}
 use Rattle.link_io.specs.Events as law
-use Rattle.link_io.specs.Decoding.{AreAllOfFrames, FramesOfLink, MadeOfFrames}
+use Rattle.link_decoders.specs.Decoding.{AreAllOfFrames, FramesOfLink, MadeOfFrames}
 use Rattle.gate_workers.proofs.Run.{read-of, whole_link}
 use Rattle.gate_workers.proofs.reader.client_reader.Goals as goal
 

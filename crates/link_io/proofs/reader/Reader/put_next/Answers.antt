@@ -1,5 +1,6 @@
 use Rattle.std.proofs.Common.{false, subst}
-use Rattle.link_io.specs.Reading.{Reading, MadeAll}
+use Rattle.link_decoders.specs.Making.{MadeAll}
+use Rattle.link_io.specs.Reading.{Reading}
 use Rattle.link_io.proofs.Going.{idle_next}
 use Rattle.link_io.proofs.reader.Reader.put_next.Goals as goal
 

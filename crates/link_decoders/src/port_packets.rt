@@ -2,10 +2,10 @@
 
 ghost use Rattle.std.specs.Prelude.{◌≡◌, [], true, Ok, None};
 ghost use Rattle.soup_packets.specs.Stream.{Fed};
-ghost use Rattle.link_io.specs.Decoding.{NextPacket};
+ghost use Rattle.link_decoders.specs.Decoding.{NextPacket};
 
+use crate::decode_fault::DecodeFault;
 use crate::decoder::Decoder;
-use crate::link_fault::LinkFault;
 use gate_events::{Event, PortNumber};
 use soup_packets::{Packet, Packets};
 use std::alloc::{AllocError, Global};
@@ -22,7 +22,7 @@ pub struct PortPackets {
 }
 
 impl Model for PortPackets {
-    ghost use Rattle.link_io.specs.Decoding.{PacketsOfLink};
+    ghost use Rattle.link_decoders.specs.Decoding.{PacketsOfLink};
 
     ghost Value = { PacketsOfLink };
 
@@ -31,7 +31,7 @@ impl Model for PortPackets {
 
 impl PortPackets {
     /// For a link of which no byte has come. Takes no memory.
-    pub(crate) fn new(alloc: Global, port: PortNumber, link: u64) -> PortPackets
+    pub fn new(alloc: Global, port: PortNumber, link: u64) -> PortPackets
         ensures port { result.port ≡ port }
         ensures link { result.link ≡ link }
         ensures fed { Fed [] [] result.packets }
@@ -46,7 +46,7 @@ impl PortPackets {
 
 impl Decoder for PortPackets {
     ghost use Rattle.std.specs.Prelude.{length};
-    ghost use Rattle.link_io.specs.Decoding.{MadeOfPackets, AreAllOfPackets};
+    ghost use Rattle.link_decoders.specs.Decoding.{MadeOfPackets, AreAllOfPackets};
 
     ghost source = { λ p. (p.port, p.link) };
 
@@ -62,7 +62,7 @@ impl Decoder for PortPackets {
         self.packets.put(alloc, piece)
     }
 
-    fn make(&mut self, alloc: Global, at: u64) -> Result<Option<Event>, LinkFault> {
+    fn make(&mut self, alloc: Global, at: u64) -> Result<Option<Event>, DecodeFault> {
         let Some(packet) = next_packet(&mut self.packets, alloc)? else {
             return Ok(None);
         };
@@ -92,13 +92,13 @@ fn has_no_packet(packets: &Packets) -> bool
 }
 
 /// Copies the next packet out of the reader.
-fn next_packet(packets: &mut Packets, alloc: Global) -> Result<Option<Packet>, LinkFault>
+fn next_packet(packets: &mut Packets, alloc: Global) -> Result<Option<Packet>, DecodeFault>
     ensures { NextPacket result packets.old packets.new }
 {
     let packet = match packets.front() {
         Ok(Some(view)) => view.to_packet(alloc)?,
         Ok(None) => return Ok(None),
-        Err(_) => return Err(LinkFault::Malformed),
+        Err(_) => return Err(DecodeFault::Malformed),
     };
     packets.pass();
     Ok(Some(packet))

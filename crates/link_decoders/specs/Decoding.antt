@@ -7,9 +7,8 @@ use Rattle.fix_framing.specs.Stream.{ReaderStanding, Passed, End, Rest, Over, pa
 use Rattle.soup_packets.specs.wire_streams.Buffer.{BytesHeld}
 use Rattle.soup_packets.specs.declared.packet.Packet.{Packet}
 use Rattle.soup_packets.specs.Stream.{Fed, ArePackets, EndsEmpty}
-use Rattle.link_io.specs.declared.link_fault.LinkFault.{LinkFault}
-use Rattle.link_io.specs.declared.link_fault.LinkFault.TheVariants.{ReadFailed, WriteFailed, Malformed, StepLimit}
-use Rattle.link_io.specs.declared.link_fault.LinkFault.TheVariants.{NoMemory}
+use Rattle.link_decoders.specs.declared.decode_fault.DecodeFault.{DecodeFault}
+use Rattle.link_decoders.specs.declared.decode_fault.DecodeFault.TheVariants.{Malformed, NoMemory}
 
 -- ---- a client's
 
@@ -42,7 +41,7 @@ AreAllOfFrames f over taken events = BringFrames f.client f.link (parts taken).f
     × EndsSo over (parts taken).end
 
 -- the next frame is passed, and given, where one is whole; `Malformed` where too long a one is announced
-abbrev pub NextFrame : Result (Option Message) LinkFault → ReaderStanding → ReaderStanding → Type 0
+abbrev pub NextFrame : Result (Option Message) DecodeFault → ReaderStanding → ReaderStanding → Type 0
 NextFrame (Ok (Some fields)) old new =
     ((taken : List ℕ) (passed : List Message) → Passed taken passed old → Passed taken (passed ++ fields ∷ []) new)
     × ((left old.end).frames ≡ fields ∷ (left new.end).frames) × (length (fields_text fields) ≤ longest)
@@ -54,9 +53,6 @@ NextFrame (Err Malformed) old new =
     → Passed taken passed new × ((parts taken).frames ≡ passed) × EndsSo true (parts taken).end
 NextFrame (Err NoMemory) old new =
     (taken : List ℕ) (passed : List Message) → Passed taken passed old → Passed taken passed new
-NextFrame (Err ReadFailed) old new = ⊥
-NextFrame (Err WriteFailed) old new = ⊥
-NextFrame (Err StepLimit) old new = ⊥
 
 -- ---- a port's
 
@@ -90,7 +86,7 @@ AreAllOfPackets p over taken events =
     × EndsAtEmpty over taken packets
 
 -- the next packet is passed, and given, where one is whole; `Malformed` where a length of 0 stands there
-abbrev pub NextPacket : Result (Option Packet) LinkFault → BytesHeld → BytesHeld → Type 0
+abbrev pub NextPacket : Result (Option Packet) DecodeFault → BytesHeld → BytesHeld → Type 0
 NextPacket (Ok (Some packet)) old new =
     ((taken : List ℕ) (passed : List Packet) → Fed taken passed old → Fed taken (passed ++ packet ∷ []) new)
     × (length new.held < length old.held)
@@ -101,6 +97,3 @@ NextPacket (Err Malformed) old new =
     → Fed taken passed new × ArePackets taken passed × EndsEmpty taken passed
 NextPacket (Err NoMemory) old new = (taken : List ℕ) (passed : List Packet) → Fed taken passed old
     → Fed taken passed new
-NextPacket (Err ReadFailed) old new = ⊥
-NextPacket (Err WriteFailed) old new = ⊥
-NextPacket (Err StepLimit) old new = ⊥

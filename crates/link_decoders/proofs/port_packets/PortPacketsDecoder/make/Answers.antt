@@ -1,6 +1,6 @@
 use Rattle.std.proofs.Common.{sym}
-use Rattle.link_io.proofs.Packeting.{makes_packet}
-use Rattle.link_io.proofs.port_packets.PortPacketsDecoder.make.Goals as goal
+use Rattle.link_decoders.proofs.Packeting.{makes_packet}
+use Rattle.link_decoders.proofs.port_packets.PortPacketsDecoder.make.Goals as goal
 
 pub returns-clause-makes : goal.returns-clause-makes
 returns-clause-makes c =

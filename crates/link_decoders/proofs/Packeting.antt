@@ -3,7 +3,7 @@ use Rattle.std.proofs.Common.{◌≡◌, ℕ, ◌<◌, ◌++◌, List, [], ◌�
 use Rattle.gate_law.specs.Events.{Event, PortPacket}
 use Rattle.soup_packets.specs.wire_streams.Buffer.{BytesHeld}
 use Rattle.soup_packets.specs.declared.packet.Packet.{Packet}
-use Rattle.link_io.specs.Decoding.{BringPackets, PacketsOfLink, MadeOfPackets, NextPacket}
+use Rattle.link_decoders.specs.Decoding.{BringPackets, PacketsOfLink, MadeOfPackets, NextPacket}
 
 bring_more : (port link : ℕ) (packets : List Packet) (events : List Event) (packet : Packet) (event : Event) (at : ℕ)
     → BringPackets port link packets events → event ≡ PortPacket port link at packet

@@ -15,8 +15,8 @@ use Rattle.fix_framing.specs.Stream.{Start, Head, LessThanHead, NoHead, Place, F
 use Rattle.fix_framing.specs.Stream.{place_of, place_of_head, framed_by, is_whole, parts, parts_behind, parts_of}
 use Rattle.fix_framing.specs.Stream.{StreamParts, End, Rest, Over, left, longest, only, Passed}
 use Rattle.fix_framing.specs.Stream.{ReaderStanding, start}
-use Rattle.link_io.specs.declared.link_fault.LinkFault.TheVariants.{Malformed}
-use Rattle.link_io.specs.Decoding.{BringFrames, FramesOfLink, MadeOfFrames, NextFrame}
+use Rattle.link_decoders.specs.declared.decode_fault.DecodeFault.TheVariants.{Malformed}
+use Rattle.link_decoders.specs.Decoding.{BringFrames, FramesOfLink, MadeOfFrames, NextFrame}
 
 either : (b : Bool) → (b ≡ true) ⊎ (b ≡ false)
 either true = inl refl

@@ -1,6 +1,6 @@
 //! A decoder: bytes of a stream in, events out.
 
-use crate::link_fault::LinkFault;
+use crate::decode_fault::DecodeFault;
 use gate_events::Event;
 use std::alloc::{AllocError, Global};
 
@@ -10,7 +10,7 @@ use std::alloc::{AllocError, Global};
 pub trait Decoder: Drop {
     ghost use Rattle.std.specs.Prelude.{◌≡◌, ◌++◌, ℕ, List, Bool, true, Ok, None, OnOk, OnErr, IfOk, IfSome};
     ghost use Rattle.gate_law.specs.Events as law;
-    ghost use Rattle.link_io.specs.Reading.{Feeds, Makes, event_moment};
+    ghost use Rattle.link_decoders.specs.Making.{Feeds, Makes, event_moment};
     ghost use Rattle.gate_events.specs.Seen.{event_seen};
 
     // The number of the client or port, and of the link.
@@ -36,7 +36,7 @@ pub trait Decoder: Drop {
 
     /// Makes the next event, with this moment; `None` if no message is whole yet. `Malformed` if none can follow; after
     /// `NoMemory` the same event is made next time.
-    fn make(&mut self, alloc: Global, at: u64) -> Result<Option<Event>, LinkFault>
+    fn make(&mut self, alloc: Global, at: u64) -> Result<Option<Event>, DecodeFault>
         ensures makes { Makes made are_all to_make result self.old self.new }
         ensures moment { IfOk result (λ next. IfSome next (λ event. event_moment (event_seen event) ≡ at)) }
         ensures source { source self.new ≡ source self.old };

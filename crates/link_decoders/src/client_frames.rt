@@ -4,10 +4,10 @@ ghost use Rattle.std.specs.Prelude.{◌≡◌, ◌≤◌, ◌+◌, ◌++◌, ◌
 ghost use Rattle.std.specs.Prelude.{true, Ok, None};
 ghost use Rattle.fix_framing.specs.fix_fields.Field.{Field, fields_text};
 ghost use Rattle.fix_framing.specs.Stream.{Passed, left, longest};
-ghost use Rattle.link_io.specs.Decoding.{NextFrame};
+ghost use Rattle.link_decoders.specs.Decoding.{NextFrame};
 
+use crate::decode_fault::DecodeFault;
 use crate::decoder::Decoder;
-use crate::link_fault::LinkFault;
 use fix_fields::Fields;
 use fix_framing::{FrameFault, Framer};
 use gate_events::{ClientFrame, ClientNumber, Event};
@@ -25,7 +25,7 @@ pub struct ClientFrames {
 }
 
 impl Model for ClientFrames {
-    ghost use Rattle.link_io.specs.Decoding.{FramesOfLink};
+    ghost use Rattle.link_decoders.specs.Decoding.{FramesOfLink};
 
     ghost Value = { FramesOfLink };
 
@@ -34,7 +34,7 @@ impl Model for ClientFrames {
 
 impl ClientFrames {
     /// For a link of which no byte has come. Takes no memory.
-    pub(crate) fn new(alloc: Global, client: ClientNumber, link: u64) -> ClientFrames
+    pub fn new(alloc: Global, client: ClientNumber, link: u64) -> ClientFrames
         ensures client { result.client ≡ client }
         ensures link { result.link ≡ link }
         ensures passed { Passed [] [] result.framer }
@@ -50,7 +50,7 @@ impl ClientFrames {
 impl Decoder for ClientFrames {
     ghost use Rattle.std.specs.Prelude.{length};
     ghost use Rattle.fix_framing.specs.Stream.{left};
-    ghost use Rattle.link_io.specs.Decoding.{MadeOfFrames, AreAllOfFrames};
+    ghost use Rattle.link_decoders.specs.Decoding.{MadeOfFrames, AreAllOfFrames};
 
     ghost source = { λ f. (f.client, f.link) };
 
@@ -66,7 +66,7 @@ impl Decoder for ClientFrames {
         self.framer.put(alloc, piece)
     }
 
-    fn make(&mut self, alloc: Global, at: u64) -> Result<Option<Event>, LinkFault> {
+    fn make(&mut self, alloc: Global, at: u64) -> Result<Option<Event>, DecodeFault> {
         let Some(fields) = next_frame(&mut self.framer, alloc)? else {
             return Ok(None);
         };
@@ -97,12 +97,12 @@ fn has_no_frame(framer: &Framer) -> bool
 }
 
 /// Moves the next frame out of the framer.
-fn next_frame(framer: &mut Framer, alloc: Global) -> Result<Option<Fields>, LinkFault>
+fn next_frame(framer: &mut Framer, alloc: Global) -> Result<Option<Fields>, DecodeFault>
     ensures { NextFrame result framer.old framer.new }
 {
     match framer.next(alloc) {
         Ok(fields) => Ok(fields),
-        Err(FrameFault::TooLong) => Err(LinkFault::Malformed),
-        Err(FrameFault::NoMemory) => Err(LinkFault::NoMemory),
+        Err(FrameFault::TooLong) => Err(DecodeFault::Malformed),
+        Err(FrameFault::NoMemory) => Err(DecodeFault::NoMemory),
     }
 }

@@ -1,5 +1,5 @@
-use Rattle.link_io.proofs.Framing.{next_given, next_malformed}
-use Rattle.link_io.proofs.client_frames.next_frame.Goals as goal
+use Rattle.link_decoders.proofs.Framing.{next_given, next_malformed}
+use Rattle.link_decoders.proofs.client_frames.next_frame.Goals as goal
 
 pub returns-in-Ok : goal.returns-in-Ok
 returns-in-Ok c = next_given c.in-Ok.fields c.args.framer.now c.next.new.self c.in-Ok.ensures

@@ -1,6 +1,6 @@
 use Rattle.std.proofs.Common.{rules, ◌≡◌, sym}
-use Rattle.link_io.proofs.Framing.{makes_frame}
-use Rattle.link_io.proofs.client_frames.ClientFramesDecoder.make.Goals as goal
+use Rattle.link_decoders.proofs.Framing.{makes_frame}
+use Rattle.link_decoders.proofs.client_frames.ClientFramesDecoder.make.Goals as goal
 
 pub returns-clause-makes : goal.returns-clause-makes
 returns-clause-makes c =

@@ -1,0 +1,2 @@
+mod Framing
+mod Packeting

@@ -1,5 +1,0 @@
-use Rattle.link_io.proofs.Framing.{next_idle}
-use Rattle.link_io.proofs.client_frames.has_no_frame.Goals as goal
-
-pub returns : goal.returns
-returns c = λ idle. next_idle c.args.framer.now (c.is_idle.ensures.0 idle)
