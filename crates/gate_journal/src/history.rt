@@ -88,7 +88,10 @@ impl History {
         ensures events { IfOk result (λ events. events.items ≡ self.now.events) }
         ensures count { IfOk result (λ events. length events.items ≡ length self.now.batches) }
     {
-        let events = events_of(alloc, DayRecords::of(Version::Two, self.pages.as_slice()))?;
+        let events = events_of(
+            alloc,
+            DayRecords::of_judged(Version::Two, self.pages.as_slice()),
+        )?;
         Ok(events)
     }
 
@@ -96,7 +99,7 @@ impl History {
     pub fn count(&self) -> u64
         ensures { result ≡ length self.now.events % 2 ^ 64 }
     {
-        count_of(DayRecords::of(Version::Two, self.pages.as_slice()))
+        count_of(DayRecords::of_judged(Version::Two, self.pages.as_slice()))
     }
 
     /// Their batches, one for each event, in order, read from the pages.
@@ -104,7 +107,10 @@ impl History {
         ensures batches { IfOk result (λ batches. map batch_seen batches.items ≡ self.now.batches) }
         ensures count { IfOk result (λ batches. length batches.items ≡ length self.now.events) }
     {
-        let batches = batches_of(alloc, DayRecords::of(Version::Two, self.pages.as_slice()))?;
+        let batches = batches_of(
+            alloc,
+            DayRecords::of_judged(Version::Two, self.pages.as_slice()),
+        )?;
         Ok(batches)
     }
 
@@ -113,7 +119,7 @@ impl History {
         ensures events { events_left result ≡ self.now.events }
         ensures batches { batches_left result ≡ self.now.batches }
     {
-        Turns::of(self.pages.as_slice())
+        Turns::of_judged(self.pages.as_slice())
     }
 
     /// The events of one source, in order, read from the pages.
@@ -149,7 +155,7 @@ impl History {
         ensures day { day_fault Two result.pages ≡ None }
     {
         let History { pages } = self;
-        TurnPages::of(pages.into_vec())
+        TurnPages::of_judged(pages.into_vec())
     }
 
     /// The history that pages are, all of version 1 or all of version 2; or the place of the first page with which

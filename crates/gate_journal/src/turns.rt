@@ -1,8 +1,10 @@
 //! The turns of a history, read one by one.
 
-ghost use Rattle.std.specs.Prelude.{◌≡◌, ◌∷◌, [], IfOk, MatchOption};
+ghost use Rattle.std.specs.Prelude.{◌≡◌, ◌∷◌, [], true, IfOk, MatchOption};
 ghost use Rattle.gate_events.specs.Seen.{batch_seen};
+ghost use Rattle.journal_pages.specs.declared.version.Version.TheVariants.{Two};
 ghost use Rattle.journal_records.specs.journal_days.Cut.{texts};
+ghost use Rattle.journal_records.specs.journal_days.Day.{are_pages};
 ghost use Rattle.gate_journal.specs.Kept.{kept_in};
 ghost use Rattle.gate_journal.specs.Left.{batches_left, events_left};
 
@@ -20,13 +22,14 @@ pub struct Turns<'a> {
 }
 
 impl<'a> Turns<'a> {
-    /// All that pages of version 2 say. Takes no memory.
-    pub(crate) fn of(pages: &'a [Vec<u8>]) -> Turns<'a>
+    /// All that pages say of which each is known to be one of version 2: no record is tested again. Takes no memory.
+    pub(crate) fn of_judged(pages: &'a [Vec<u8>]) -> Turns<'a>
+        requires { are_pages Two (texts pages.now) ≡ true }
         ensures events { events_left result ≡ (kept_in (texts pages.now)).events }
         ensures batches { batches_left result ≡ (kept_in (texts pages.now)).batches }
     {
         Turns {
-            records: DayRecords::of(Version::Two, pages),
+            records: DayRecords::of_judged(Version::Two, pages),
         }
     }
 

@@ -5,3 +5,4 @@ pub mod Leading
 mod Counting
 mod Judged
 mod Sides
+pub mod Paging

@@ -1,7 +1,7 @@
 -- Pages of a day, one behind another: whole batches, however they are cut. All are of one version; in version 2 each
 -- has the number of records before it. The format is the gateway's own.
 use Rattle.std.specs.Prelude.{ℕ, ◌+◌, ◌==◌, Bool, true, false, not, ◌&&◌, nat_lt, List, [], ◌∷◌, Option, Some, None}
-use Rattle.std.specs.Prelude.{if◌then◌else◌}
+use Rattle.std.specs.Prelude.{is_none, if◌then◌else◌}
 use Rattle.std.specs.List.{flat_map}
 use Rattle.journal_pages.specs.declared.fault.PageFault.{PageFault}
 use Rattle.journal_pages.specs.declared.fault.PageFault.TheVariants as faults
@@ -22,6 +22,11 @@ version_of (page ∷ pages) = version_named page
 -- the records of pages of a version, one behind another
 abbrev pub day_records : Version → List (List ℕ) → List Record
 day_records version pages = flat_map (page_records version) pages
+
+-- each of these is a page of a version
+abbrev pub are_pages : Version → List (List ℕ) → Bool
+are_pages version [] = true
+are_pages version (page ∷ pages) = is_none (page_fault version page) && are_pages version pages
 
 -- no batch is open
 abbrev pub has_no_batch : Place → Bool

@@ -8,8 +8,8 @@ ghost use Rattle.journal_days.specs.Cut.{texts};
 ghost use Rattle.journal_days.specs.Day as spec;
 ghost use Rattle.journal_days.specs.Day.{day_fault, page_fault_in_day, version_of};
 
-use crate::numbers::number_behind;
-use crate::records::page_records;
+use crate::numbers::judged_number_behind;
+use crate::records::judged_records;
 use journal_pages::{PageFault, Place, Records, Version, judge, page_number};
 
 /// The version of pages that are those of a day, one behind another; else the place of the first page, from 0, with
@@ -53,7 +53,7 @@ fn judge_pages(version: Version, pages: &[Vec<u8>]) -> Result<(), (u32, PageFaul
             Ok(later) => place = later,
             Err(fault) => return Err((index, fault)),
         }
-        number = number_behind(page);
+        number = judged_number_behind(version, page);
         index = page_behind(index);
         rest = behind;
     }
@@ -83,7 +83,7 @@ pub(crate) fn judge_in_day(
 {
     judge(version, page)?;
     judge_number(version, number, page)?;
-    let later = place_of(page_records(version, page), place)?;
+    let later = place_of(judged_records(version, page), place)?;
     if is_last && !has_no_batch(&later) {
         return Err(PageFault::Order);
     }

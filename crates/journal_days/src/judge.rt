@@ -5,7 +5,7 @@ ghost use Rattle.journal_days.specs.Begun.{begun_fault, version_seen};
 ghost use Rattle.journal_days.specs.Day.{day_fault, version_of};
 
 use crate::day::{has_no_batch, judge_in_day, page_behind};
-use crate::numbers::number_behind;
+use crate::numbers::judged_number_behind;
 use journal_pages::{NotedPages, PageFault, Place, Version};
 use std::marker::Model;
 
@@ -69,7 +69,7 @@ impl DayJudge {
         self.version = Some(version);
         self.last = self.next;
         self.next = page_behind(self.next);
-        self.number = number_behind(page);
+        self.number = judged_number_behind(version, page);
         self.place = later;
         Ok(())
     }

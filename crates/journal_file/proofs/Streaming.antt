@@ -2,7 +2,7 @@
 use Rattle.std.proofs.Common.{◌≡◌, ◌≤◌, ℕ, ◌+◌, Bool, true, false, Option, Some, None, List, [], ◌∷◌, ◌++◌}
 use Rattle.std.proofs.Common.{inl, inr, refl, sym, ap, subst, ◌∙◌, arith, append_assoc, append-nil, take, drop, length}
 use Rattle.std.proofs.Common.{length-append, length-drop, length-take}
-use Rattle.std.proofs.lemmas.Bool.{true≢false, le-ltb}
+use Rattle.std.proofs.lemmas.Bool.{and_parts, true≢false, le-ltb}
 use Rattle.std.proofs.lemmas.Bool.Decides.{nat_tests}
 use Rattle.std.proofs.lemmas.List.{drop-append-le, take-append-le, drop_at, take_at}
 use Rattle.std.proofs.lemmas.Slice.Eq.{bytes_eq-Decides}
@@ -14,9 +14,10 @@ use Rattle.journal_pages.specs.declared.fault.PageFault.{PageFault}
 use Rattle.journal_pages.specs.declared.fault.PageFault.TheVariants as pages
 use Rattle.journal_pages.specs.declared.version.Version.{Version}
 use Rattle.journal_pages.specs.declared.version.Version.TheVariants.{One, Two}
-use Rattle.journal_pages.specs.Page.{page_name, version_named}
+use Rattle.journal_pages.specs.Page.{page_fault, page_name, version_named}
 use Rattle.journal_days.specs.Begun.{begun_fault}
-use Rattle.journal_days.specs.Day.{day_fault, day_records, kept_as, version_of}
+use Rattle.journal_days.specs.Day.{are_pages, day_fault, day_records, kept_as, version_of}
+use Rattle.journal_days.proofs.Paging.{day-pages}
 use Rattle.gate_journal.specs.Kept.{GoOnBy, Kept, kept_in}
 use Rattle.gate_journal.proofs.Parted.{go-on}
 use Rattle.journal_file.specs.declared.ending.Ending.{Ending}
@@ -88,6 +89,12 @@ version-two (page ∷ ps) rest is =
     first-two page (sized_pages Two ps ++ rest)
     (ap (stands_at 16 (page_name Two)) (sym (append_assoc (sized_page Two page) (sized_pages Two ps) rest)) ∙ is)
 
+-- the pages behind some are pages, where all are
+pages-after : (before after : List (List ℕ)) → are_pages Two (before ++ after) ≡ true → are_pages Two after ≡ true
+pages-after [] after e = e
+pages-after (page ∷ before) after e = pages-after before after
+    (and_parts (is_none (page_fault Two page)) (are_pages Two (before ++ after)) e).1
+
 -- ---- page by page
 
 module _ (read left : List ℕ) (taken held yielded : List (List ℕ)) (in-pages : IsInPages read left taken held yielded) where
@@ -102,6 +109,10 @@ module _ (read left : List ℕ) (taken held yielded : List (List ℕ)) (in-pages
   -- pages that are given
   pub given : day_fault (version_of taken) taken ≡ None → GoOnBy yielded (kept_in held) (yielded ++ held)
   given day = go-on yielded held in-pages.day (day-two day)
+
+  -- those that are held are pages each
+  pub held-pages : day_fault (version_of taken) taken ≡ None → are_pages Two held ≡ true
+  held-pages day = pages-after yielded held (day-pages Two (yielded ++ held) (day-two day))
 
   pub gave : day_fault (version_of taken) taken ≡ None → IsInPages read left taken [] (yielded ++ held)
   gave day = record {

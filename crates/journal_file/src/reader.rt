@@ -268,7 +268,7 @@ impl DayReader {
     {
         let held = mem::replace(&mut self.held, Vec::new(alloc));
         note_pages(&mut self.yielded, held.as_slice());
-        TurnPages::of(held)
+        TurnPages::of_judged(held)
     }
 
     /// Takes the page of so many bytes that stands in front, where it can stand behind those before.

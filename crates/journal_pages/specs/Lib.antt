@@ -1,3 +1,4 @@
+pub mod Judged
 pub mod Ordered
 pub mod Page
 pub mod Pages

@@ -153,6 +153,14 @@ front bytes = if nat_lt (length bytes) head_size then Refused faults.CutShort
     else if is_cut bytes then Refused faults.CutShort
     else front_of_kind (kind_numbered (slice_index bytes 0)) bytes
 
+abbrev pub is_record : Front → Bool
+is_record (Stands r) = true
+is_record (Refused fault) = false
+
+-- some bytes begin with a record
+abbrev pub has_record : List ℕ → Bool
+has_record bytes = is_record (front bytes)
+
 -- ---- records one behind another
 
 abbrev pub records_of_front : Front → (ℕ → List Record) → List Record

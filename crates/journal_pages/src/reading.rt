@@ -1,10 +1,11 @@
 //! The record in front of some bytes.
 
-ghost use Rattle.std.specs.Prelude.{◌≡◌, ◌+◌, ◌≤◌, ◌++◌, length, take, drop, MatchResult, IfOk};
+ghost use Rattle.std.specs.Prelude.{◌≡◌, ◌+◌, ◌≤◌, ◌++◌, length, take, drop, MatchResult, IfOk, Some, true, is_some};
 ghost use Rattle.std.specs.Int.{w16, w32, w64, from_be_bytes};
 ghost use Rattle.journal_pages.specs.Record as spec;
-ghost use Rattle.journal_pages.specs.Record.{Stands, Refused, head_size, is_fault_number, is_packet, link_fits};
-ghost use Rattle.journal_pages.specs.Record.{payload_fits, payload_size, record_bytes, size_of, source_fits};
+ghost use Rattle.journal_pages.specs.Record.{Stands, Refused, has_record, head_size, is_fault_number, is_packet};
+ghost use Rattle.journal_pages.specs.Record.{kind_numbered, link_fits, payload_fits, payload_size, record_bytes};
+ghost use Rattle.journal_pages.specs.Record.{size_of, source_fits};
 ghost use Rattle.journal_pages.specs.Seen.{record_of, record_seen};
 
 use crate::fault::PageFault;
@@ -62,6 +63,33 @@ fn front_of<'a>(bytes: &'a [u8]) -> Result<RecordView<'a>, PageFault>
         at: head.at,
         payload,
     })
+}
+
+/// The record in front of bytes that are known to begin with one: its head is read, and nothing is tested. Takes no
+/// memory.
+pub(crate) fn known_front<'a>(bytes: &'a [u8]) -> RecordView<'a>
+    requires { has_record bytes.now ≡ true }
+    ensures within { size_of (record_seen result) ≤ length bytes.now }
+    ensures front { spec.front bytes.now ≡ Stands (record_seen result) }
+{
+    let size = payload_size(bytes);
+    let kind = known_kind(bytes[0]);
+    let (head, payload) = read_as(kind, bytes, size);
+    RecordView {
+        kind: head.kind,
+        source: head.source,
+        link: head.link,
+        at: head.at,
+        payload,
+    }
+}
+
+/// The kind of a number that one has.
+fn known_kind(number: u8) -> RecordKind
+    requires { is_some (kind_numbered number) ≡ true }
+    ensures { kind_numbered number ≡ Some result }
+{
+    RecordKind::of(number).unwrap()
 }
 
 /// The length of the payload, as the head says it.

@@ -1,6 +1,8 @@
 use Rattle.std.proofs.Common.{◌≡◌, ◌++◌, ◌∷◌, [], None, Some, Option, List, ℕ, refl, sym, ap, subst, ◌∙◌}
 use Rattle.journal_pages.specs.declared.place.Place.{Place}
 use Rattle.journal_pages.specs.declared.version.Version.{Version}
+use Rattle.journal_pages.specs.Page.{page_fault}
+use Rattle.journal_pages.proofs.Listed.{both-none}
 use Rattle.journal_days.specs.Begun.{begun_fault}
 use Rattle.journal_days.specs.Day.{page_behind, version_of}
 use Rattle.journal_days.specs.Judged.{HasJudged}
@@ -29,13 +31,13 @@ invariant_of-self c =
     let same : c.args.self.now ++ page ∷ [] ≡ c.note.new.self.pages =
     ap (λ (ps : List (List ℕ)). ps ++ page ∷ []) (sym c.self.view_is) ∙ sym c.note.ensures in
     let at : HasJudged (Some c.version_with-version.result) c.self.inside.next c.page_behind-self-inside.result
-    c.number_behind-self-inside.result c.in-Ok.later (c.args.self.now ++ page ∷ []) =
+    c.judged_number_behind-self-inside.result c.in-Ok.later (c.args.self.now ++ page ∷ []) =
     subst (λ (n : ℕ). HasJudged (Some c.version_with-version.result) c.self.inside.next n
-    c.number_behind-self-inside.result c.in-Ok.later (c.args.self.now ++ page ∷ []))
+    c.judged_number_behind-self-inside.result c.in-Ok.later (c.args.self.now ++ page ∷ []))
     (sym c.page_behind-self-inside.ensures)
     (subst (λ (n : ℕ). HasJudged (Some c.version_with-version.result) c.self.inside.next
     (page_behind c.self.inside.next) n c.in-Ok.later
-    (c.args.self.now ++ page ∷ [])) (sym c.number_behind-self-inside.ensures) has) in
+    (c.args.self.now ++ page ∷ [])) (sym c.judged_number_behind-self-inside.ensures) has) in
     along _ _ _ _ _ _ _ same at
 
 pub returns : goal.returns
@@ -51,3 +53,7 @@ returns c =
             (along _ _ _ _ _ _ _ c.self.view_is c.self.invariant) c.version_with-version.ensures c.in-Ok.ensures.0,
       );
     }
+
+pub judged_number_behind-self-inside-requires : goal.judged_number_behind-self-inside-requires
+judged_number_behind-self-inside-requires c =
+    (both-none (page_fault c.version_with-version.result c.args.page.now) _ c.in-Ok.ensures.0).0
