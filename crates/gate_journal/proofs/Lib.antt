@@ -1,5 +1,6 @@
 mod Behind
 mod Growing
 mod Turning
+mod Bared
 pub mod Parted
 pub mod Days

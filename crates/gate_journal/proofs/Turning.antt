@@ -33,7 +33,7 @@ kind-of kinds.PortClose r e is = absurd cc
 kind-of kinds.Fault r e is = absurd cc
 kind-of kinds.BatchEnd r e is = absurd cc
 
-event-kind : (r : Record) (e : Event) → event_in r ≡ Some e → is_event r.kind ≡ true
+pub event-kind : (r : Record) (e : Event) → event_in r ≡ Some e → is_event r.kind ≡ true
 event-kind r e is = by_source (r.source == 0) is
   where
     by_source : (b : Bool) → (if b then None else event_of_kind r.kind r) ≡ Some e → is_event r.kind ≡ true
@@ -95,7 +95,7 @@ part-other kinds.PortClose is = refl
 part-other kinds.Fault is = refl
 part-other kinds.BatchEnd is = refl
 
-events-behind : (rs : List Record) → events_in (behind_parts rs) ≡ events_in rs
+pub events-behind : (rs : List Record) → events_in (behind_parts rs) ≡ events_in rs
 events-behind [] = refl
 events-behind (r ∷ rs) = by_part (is_part r.kind) refl (events-behind rs)
   where
@@ -105,7 +105,7 @@ events-behind (r ∷ rs) = by_part (is_part r.kind) refl (events-behind rs)
         ∙ ap (λ (o : Option Event). with_event o (events_in rs)) (sym (part-none r.kind r (r.source == 0) is))
     by_part false is rest = refl
 
-batches-behind : (rs : List Record) → batches_in (behind_parts rs) ≡ batches_in rs
+pub batches-behind : (rs : List Record) → batches_in (behind_parts rs) ≡ batches_in rs
 batches-behind [] = refl
 batches-behind (r ∷ rs) = by_part (is_part r.kind) refl (batches-behind rs)
   where

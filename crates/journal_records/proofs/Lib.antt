@@ -1,4 +1,5 @@
 mod Back
+pub mod Bare
 mod Behind
 pub mod Fits
 pub mod InOrder

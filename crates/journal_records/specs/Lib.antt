@@ -1,3 +1,4 @@
+pub mod Bare
 pub mod Days
 pub mod Events
 pub mod Parts

@@ -4,6 +4,7 @@
 //! The format is the gateway's own.
 #![tactic(auto)]
 
+mod bare_turns;
 mod batches;
 mod days;
 mod events;
@@ -14,6 +15,7 @@ mod parts;
 mod reading;
 mod turns;
 
+pub use bare_turns::{bare_batch_of, bare_event_of};
 pub use days::{batches_of, events_of};
 pub use events::append_event;
 pub use laws::{
