@@ -67,15 +67,14 @@ own-sent c k r all is =
 
 -- ---- all orders
 
-module _ (c : ℕ) (r : Message) (all : List SaidToClient) (old : KeptReadings) (mid : OrderKey → Option (Option Reading))
-    (new : KeptReadings) (key : OrderKey) (now : Option Reading) where
+module _ (c : ℕ) (r : Message) (all : List SaidToClient) (old new : KeptReadings) (key : OrderKey)
+    (now : Option Reading) where
   pub kept-more : key.client ≡ c → key.order.items ≡ text 37 r
-      → ((q : OrderKey) → mid q ≡ cond (same_order key q) None (get same_order old.readings q))
       → ((q : OrderKey) → get same_order new.readings q
-      ≡ cond (same_order key q) (Some now) (mid q))
+      ≡ cond (same_order key q) (Some now) (get same_order old.readings q))
       → ((sent : List Message) → IsReadAs (text 37 r) sent (kept_of old key) → IsReadAs (text 37 r) (r ∷ sent) now)
       → AreKept all old → AreKept (said_to c r ∷ all) new
-  kept-more its_client its_order taken put heard are = record { read = λ q. by_key q (same_order key q) refl }
+  kept-more its_client its_order put heard are = record { read = λ q. by_key q (same_order key q) refl }
     where
       found : Option (Option Reading) → Option Reading
       found x = unwrap_or x (Some unread)
@@ -87,7 +86,7 @@ module _ (c : ℕ) (r : Message) (all : List SaidToClient) (old : KeptReadings) 
           let client : key.client ≡ q.client = eqb-true key.client q.client parts.0 in
           let order : key.order.items ≡ q.order.items = (bytes_decides key.order.items q.order.items).0 parts.1 in
           let kept : now ≡ kept_of new q = sym (ap found (put q
-          ∙ ap (λ (b : Bool). cond b (Some now) (mid q)) is)) in
+          ∙ ap (λ (b : Bool). cond b (Some now) (get same_order old.readings q)) is)) in
           let told : IsReadAs (text 37 r) (sent_to c all) (kept_of old key) =
           subst (λ (o : List ℕ). IsReadAs o (sent_to c all) (kept_of old key)) its_order
           (subst (λ (k : ℕ). IsReadAs key.order.items (sent_to k all) (kept_of old key)) its_client (are.read key)) in
@@ -98,8 +97,7 @@ module _ (c : ℕ) (r : Message) (all : List SaidToClient) (old : KeptReadings) 
           (subst (λ (o : List ℕ). IsReadAs o (r ∷ sent_to c all) now) (sym its_order ∙ order) next))
       by_key q false other =
           let same : get same_order new.readings q ≡ get same_order old.readings q =
-          put q ∙ (ap (λ (b : Bool). cond b (Some now) (mid q)) other
-          ∙ (taken q ∙ ap (λ (b : Bool). cond b None (get same_order old.readings q)) other)) in
+          put q ∙ ap (λ (b : Bool). cond b (Some now) (get same_order old.readings q)) other in
           let kept : kept_of old q ≡ kept_of new q = sym (ap found same) in
           let apart : (nat_eq c q.client && bytes_eq (text 37 r) q.order.items) ≡ false =
           sym (ap (λ (k : ℕ). nat_eq k q.client && bytes_eq key.order.items q.order.items) its_client

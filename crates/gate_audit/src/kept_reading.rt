@@ -40,21 +40,32 @@ impl KeptReading {
         })
     }
 
-    /// What one report more makes of what was read of the order that it names: none is left where a number of it is
-    /// larger than its integer holds.
-    pub fn with_report(self, alloc: Global, report: &Fields) -> Result<KeptReading, AllocError>
-        ensures { IfOk result (λ now. (sent : List Message) → IsReadAs (text_of 37 report.now) sent self
-            → IsReadAs (text_of 37 report.now) (report.now ∷ sent) now) }
+    /// Of the order that a report names, which none named before. One growth, and those of `hear`.
+    pub fn first(alloc: Global, report: &Fields) -> Result<KeptReading, AllocError>
+        ensures { IfOk result (λ kept. (sent : List Message) → IsReadAs (text_of 37 report.now) sent (Some unread)
+            → IsReadAs (text_of 37 report.now) (report.now ∷ sent) kept) }
     {
-        let Some(mut reading) = self.held else {
-            return Ok(KeptReading { held: None });
+        let mut kept = KeptReading::unread(alloc)?;
+        kept.hear(alloc, report)?;
+        Ok(kept)
+    }
+
+    /// One report more on the order: no reading is left where a number of it is larger than its integer holds. After
+    /// `AllocError` nothing is said of it.
+    pub fn hear(&mut self, alloc: Global, report: &Fields) -> Result<(), AllocError>
+        ensures { IfOk result (λ u. (sent : List Message) → IsReadAs (text_of 37 report.now) sent self.old
+            → IsReadAs (text_of 37 report.now) (report.now ∷ sent) self.new) }
+    {
+        let Some(reading) = &mut self.held else {
+            return Ok(());
         };
         match reading.as_mut().hear_on(alloc, text(report, 37), report) {
-            Ok(()) => Ok(KeptReading {
-                held: Some(reading),
-            }),
+            Ok(()) => Ok(()),
             Err(ReadingFault::NoMemory) => Err(AllocError),
-            Err(ReadingFault::TooLarge) => Ok(KeptReading { held: None }),
+            Err(ReadingFault::TooLarge) => {
+                self.held = None;
+                Ok(())
+            }
         }
     }
 

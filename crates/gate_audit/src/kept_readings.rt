@@ -1,8 +1,8 @@
 //! What clients read of their orders, one report after another, whichever orders the reports name.
 
-ghost use Rattle.std.specs.Prelude.{◌≡◌, ◌∷◌, [], Some, IfOk, OnOk, IsErrOf, List, unwrap_or};
+ghost use Rattle.std.specs.Prelude.{◌≡◌, ◌∷◌, [], IfOk, OnOk, IsErrOf, List};
 ghost use Rattle.order_accounts.specs.Held.{StaysHeld};
-ghost use Rattle.order_law.specs.Reading.{account_read, reading, unread};
+ghost use Rattle.order_law.specs.Reading.{account_read, reading};
 ghost use Rattle.gate_audit.specs.Kept.{AreKept};
 ghost use Rattle.gate_audit.specs.Pairs.{SaidToClient, said_to};
 ghost use Rattle.gate_audit.specs.Passes.{sent_to};
@@ -39,8 +39,11 @@ impl KeptReadings {
             → AreKept (said_to client report.now ∷ all) self.new) }
     {
         let key = OrderKey::of(alloc, client, text(report, 37))?;
-        let before = or_unread(alloc, self.readings.remove(&key))?;
-        let kept = before.with_report(alloc, report)?;
+        if let Some(kept) = self.readings.get_mut(&key) {
+            kept.hear(alloc, report)?;
+            return Ok(());
+        }
+        let kept = KeptReading::first(alloc, report)?;
         self.readings.insert(key, kept)?;
         Ok(())
     }
@@ -67,15 +70,5 @@ impl KeptReadings {
             None => Ok(Reading::unread(alloc).account()),
             Some(kept) => kept.account(),
         }
-    }
-}
-
-/// What was read so far, or nothing.
-fn or_unread(alloc: Global, kept: Option<KeptReading>) -> Result<KeptReading, AllocError>
-    ensures { IfOk result (λ now. now ≡ unwrap_or kept (Some unread)) }
-{
-    match kept {
-        Some(kept) => Ok(kept),
-        None => KeptReading::unread(alloc),
     }
 }
