@@ -26,3 +26,4 @@ mod Clients
 mod Made
 mod Owning
 mod Ports
+mod Bared

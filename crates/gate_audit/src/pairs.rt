@@ -41,7 +41,7 @@ pub fn audit(
 {
     let mut audit = DayAudit::new(alloc, settings)?;
     let mut ahead = history.turns();
-    while let Some((event, batch, behind)) = ahead.split_first(alloc)? {
+    while let Some((event, batch, behind)) = ahead.split_bare(alloc)? {
         audit.take(alloc, &event, &batch)?;
         ahead = behind;
     }
