@@ -54,6 +54,7 @@ impl<'a> DayRecords<'a> {
     }
 
     /// The next record, and the records behind it; `None` where there is no more. Takes no memory.
+    #[inline(always)]
     pub fn split_first(self) -> Option<(RecordView<'a>, DayRecords<'a>)>
         ensures { MatchOption result (records_left self.entry ≡ [])
             (λ next. records_left self.entry ≡ record_seen next.0 ∷ records_left next.1) }
@@ -73,6 +74,7 @@ impl<'a> DayRecords<'a> {
     }
 
     /// The first record of the pages behind the one that is read, and those behind it.
+    #[inline(never)]
     fn first_behind(self) -> Option<(RecordView<'a>, DayRecords<'a>)>
         ensures { MatchOption result (day_records self.entry.version (texts self.entry.pages.now) ≡ [])
             (λ next. day_records self.entry.version (texts self.entry.pages.now)

@@ -25,6 +25,7 @@ const PAYLOAD_LIMIT: usize = 1_048_576;
 
 /// The record in front of some bytes. `CutShort` where there are fewer than its head or than this says; `Kind` where
 /// its kind isn't 1 to 15; `Payload` where its payload, source or link isn't one that its kind has. Takes no memory.
+#[inline(never)]
 pub fn front<'a>(bytes: &'a [u8]) -> Result<RecordView<'a>, PageFault>
     ensures within { IfOk result (λ r. size_of (record_seen r) ≤ length bytes.now) }
     ensures front { MatchResult result (λ r. spec.front bytes.now ≡ Stands (record_seen r))

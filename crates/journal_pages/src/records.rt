@@ -41,6 +41,7 @@ impl<'a> Records<'a> {
     }
 
     /// The next record, and the records behind it; `None` where there is no more. Takes no memory.
+    #[inline(always)]
     pub fn split_first(self) -> Option<(RecordView<'a>, Records<'a>)>
         ensures { MatchOption result (records_ahead self.entry ≡ [])
             (λ next. records_ahead self.entry ≡ record_seen next.0 ∷ records_ahead next.1) }
@@ -65,6 +66,7 @@ impl<'a> Records<'a> {
     }
 
     /// The same of bytes that were judged.
+    #[inline(always)]
     fn split_judged(self) -> Option<(RecordView<'a>, Records<'a>)>
         requires { self.is_judged ≡ true }
         ensures { MatchOption result (records_ahead self.entry ≡ [])
