@@ -2,7 +2,7 @@
 
 use crate::heard::Heard;
 use crate::market_fault::MarketFault;
-use tokens::NextTokens;
+use crate::pending_tokens::PendingTokens;
 
 /// The result of a payload of the market.
 #[derive(Drop)]
@@ -18,7 +18,7 @@ pub enum Judged {
         /// The number of its client, from 1.
         client: u16,
         /// The tokens of the replaces that were pending before it, the oldest one's first.
-        next: NextTokens,
+        next: PendingTokens,
         heard: Heard,
     },
 }

@@ -15,6 +15,7 @@ use crate::executed::on_executed;
 use crate::heard::{Heard, RowFault};
 use crate::judged::Judged;
 use crate::market_fault::MarketFault;
+use crate::pending_tokens::PendingTokens;
 use crate::rejected::on_rejected;
 use crate::replaced::on_replaced;
 use order_table::Table;
@@ -73,13 +74,35 @@ fn hear_on_order(
     ensures { IfOk result (IsJudgedOf issued message.now order.now) }
 {
     match message {
-        Outbound::Accepted(said) => answer_of(order, on_accepted(alloc, issued, order, said)),
-        Outbound::Replaced(said) => answer_of(order, on_replaced(alloc, issued, order, said)),
-        Outbound::Canceled(said) => answer_of(order, on_canceled(alloc, issued, order, said)),
-        Outbound::Executed(said) => answer_of(order, on_executed(alloc, issued, order, said)),
-        Outbound::Broken(said) => answer_of(order, on_broken(alloc, issued, order, said)),
-        Outbound::Rejected(said) => answer_of(order, on_rejected(alloc, issued, order, said)),
-        Outbound::CancelReject(said) => answer_of(order, on_cancel_reject(alloc, order, said)),
+        Outbound::Accepted(said) => answer_of(
+            alloc,
+            order,
+            on_accepted(alloc, issued, order, said),
+        ),
+        Outbound::Replaced(said) => answer_of(
+            alloc,
+            order,
+            on_replaced(alloc, issued, order, said),
+        ),
+        Outbound::Canceled(said) => answer_of(
+            alloc,
+            order,
+            on_canceled(alloc, issued, order, said),
+        ),
+        Outbound::Executed(said) => answer_of(
+            alloc,
+            order,
+            on_executed(alloc, issued, order, said),
+        ),
+        Outbound::Broken(said) => answer_of(alloc, order, on_broken(alloc, issued, order, said)),
+        Outbound::Rejected(said) => answer_of(
+            alloc,
+            order,
+            on_rejected(alloc, issued, order, said),
+        ),
+        Outbound::CancelReject(said) => {
+            answer_of(alloc, order, on_cancel_reject(alloc, order, said))
+        }
         Outbound::CancelPending(_) => Ok(Judged::Silent),
         Outbound::SystemEvent(_) => Ok(Judged::Silent),
         Outbound::Skipped => Ok(Judged::Silent),
@@ -87,7 +110,11 @@ fn hear_on_order(
 }
 
 /// The result of a row's answer on an order.
-fn answer_of(order: &Order, answer: Result<Heard, RowFault>) -> Result<Judged, AllocError>
+fn answer_of(
+    alloc: Global,
+    order: &Order,
+    answer: Result<Heard, RowFault>,
+) -> Result<Judged, AllocError>
     ensures { (issued : ℕ) (b : Outbound) → MeetsRow issued b order.now answer
         → IfOk result (IsJudgedOf issued b order.now) }
 {
@@ -95,7 +122,7 @@ fn answer_of(order: &Order, answer: Result<Heard, RowFault>) -> Result<Judged, A
         Ok(heard) => Ok(Judged::Told {
             order_id: order.order_id,
             client: order.client,
-            next: order.next_tokens(),
+            next: PendingTokens::of(alloc, order)?,
             heard,
         }),
         Err(fault) => refusal_of(fault),

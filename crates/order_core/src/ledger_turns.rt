@@ -3,9 +3,9 @@
 ghost use Rattle.std.specs.Prelude.{◌≡◌, [], None};
 
 use fix_types::AppBody;
+use market_messages::PendingTokens;
 use ouch_codec::Inbound;
 use std::alloc::Global;
-use tokens::NextTokens;
 
 /// What a client's message gives: bodies for the client, and what its port is asked, in order.
 #[derive(Drop)]
@@ -26,7 +26,7 @@ pub struct ChangedOrder {
     /// It is closed now.
     pub is_closed: bool,
     /// The tokens of the replaces that were pending before it, the oldest one's first.
-    pub next: NextTokens,
+    pub next: PendingTokens,
 }
 
 /// What a payload of the market gives: bodies for one client at most, in order.
