@@ -19,7 +19,7 @@ pub use client_lines::Clients;
 pub use issuing::{Issues, client_issue_all};
 pub use laws::issues_are_what_is_reported;
 pub use link_outs::told_out;
-pub use links::{only_outs, told_client, told_port};
+pub use links::{close_client, close_port, only_outs, told_client, told_port};
 pub use port_line::PortLine;
 pub use port_lines::Ports;
 pub use port_sends::port_send_all;

@@ -95,8 +95,8 @@ pub fn told_port(
     Ok(outs)
 }
 
-/// Drops the client's current link if these close it.
-fn close_client(clients: &mut Clients, place: usize, outs: &[LinkOut])
+/// Output to a client whose session has none of its own in this call: drops the client's current link if it closes it.
+pub fn close_client(clients: &mut Clients, place: usize, outs: &[LinkOut])
     requires place { place < length clients.old.lines.items }
     ensures leave { ClientsUncalled clients.old clients.new }
     ensures links { (links : ℕ → Option ℕ) → ClientLinks links clients.old.lines.items
@@ -109,8 +109,8 @@ fn close_client(clients: &mut Clients, place: usize, outs: &[LinkOut])
     }
 }
 
-/// Drops the port's current link if these close it.
-fn close_port(ports: &mut Ports, place: usize, outs: &[LinkOut])
+/// Output to a port whose session has none of its own in this call: drops the port's current link if it closes it.
+pub fn close_port(ports: &mut Ports, place: usize, outs: &[LinkOut])
     requires place { place < length ports.old.lines.items }
     ensures leave { PortsUncalled ports.old ports.new }
     ensures links { (links : ℕ → Option ℕ) → PortLinks links ports.old.lines.items

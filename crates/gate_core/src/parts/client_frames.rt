@@ -15,7 +15,7 @@ use super::client_messages::Asked;
 use fix_session::{SessionOut, SessionTurn, application_of};
 use fix_types::AppMsg;
 use gate_events::{Batch, ClientFrame, ClientNumber, PortNumber, ShortList};
-use gate_sessions::{Issues, told_client, told_port};
+use gate_sessions::{Issues, close_port, told_client};
 use std::alloc::{AllocError, Global};
 use std::hash::BuildHasher;
 
@@ -71,9 +71,9 @@ impl<S: BuildHasher + Drop> Parts<S> {
             port_outs,
         } = self.ask(alloc, place, port, message, at)?;
         let client_out = told_client(&mut self.clients, alloc, place, said, outs)?;
-        let port_out = told_port(&mut self.ports, alloc, port, None, port_outs)?;
+        close_port(&mut self.ports, port, &port_outs);
         let (client, port) = (ClientNumber::at_place(place), PortNumber::at_place(port));
-        Ok(Batch::of_parts(client, reports, client_out, port, port_out, None))
+        Ok(Batch::of_parts(client, reports, client_out, port, port_outs, None))
     }
 
     /// A frame that the session handled itself, with its output.

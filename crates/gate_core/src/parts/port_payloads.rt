@@ -22,7 +22,7 @@ ghost use Rattle.gate_core.specs.Steps.{Stepped};
 use super::{Parts, place_of};
 use fix_types::AppBody;
 use gate_events::{Batch, ClientNumber, PortNumber, ShortList};
-use gate_sessions::{Issues, told_client, told_out, told_port};
+use gate_sessions::{Issues, close_client, told_out, told_port};
 use order_core::{MarketError, MarketFault};
 use soup_session::{PortFault, PortOut, PortState};
 use std::alloc::{AllocError, Global};
@@ -124,10 +124,10 @@ impl<S: BuildHasher + Drop> Parts<S> {
         ensures grows { Grows 0 0 self.old self.new }
     {
         let Issues { reports, outs } = self.issue(alloc, client, bodies, at)?;
-        let client_out = told_client(&mut self.clients, alloc, client, Vec::new(alloc), outs)?;
+        close_client(&mut self.clients, client, &outs);
         let port_out = told_port(&mut self.ports, alloc, place, said, ShortList::new())?;
         let (client, port) = (ClientNumber::at_place(client), PortNumber::at_place(place));
-        Ok(Batch::of_parts(client, reports, client_out, port, port_out, None))
+        Ok(Batch::of_parts(client, reports, outs, port, port_out, None))
     }
 
     /// A payload that leads to no body.

@@ -1,18 +1,19 @@
-use Rattle.std.proofs.Common.{◌≡◌, ◌+◌, ℕ, List, [], ◌++◌, None, map, refl, sym, ap, ◌∙◌, subst}
+use Rattle.std.proofs.Common.{◌≡◌, ◌+◌, ℕ, List, ◌++◌, None, map, refl, sym, ap, ◌∙◌, subst}
 use Rattle.gate_sessions.specs.session_writing.Written.{told_bytes}
 use Rattle.session_law.specs.Runs.{OnMessage}
 use Rattle.gate_law.specs.Settings.{port_of}
-use Rattle.gate_law.specs.Events.{ClientMessage, Batch}
+use Rattle.gate_law.specs.Events.{ClientMessage, Batch, LinkOut}
 use Rattle.gate_law.specs.Lists.{Lists, client_called}
-use Rattle.gate_law.specs.Sessions.{to_port}
 use Rattle.gate_sessions.specs.Lines.{PortLinks}
 use Rattle.gate_core.specs.declared.parts.Parts.{Parts}
 use Rattle.gate_sessions.specs.Links.{unlinked}
+use Rattle.gate_events.specs.declared.batch.LinkOut as batch
 use Rattle.gate_events.specs.Seen.{link_out_seen}
 use Rattle.gate_core.specs.Steps.{IsAsked, Ready, Stepped, after_turn, orders_turn_of}
 use Rattle.gate_events.specs.Batches.{batch_of}
 use Rattle.gate_core.proofs.Growing.{clients-grow, grows-then, lines-grow}
 use Rattle.gate_core.proofs.Messages.{asked-step}
+use Rattle.gate_core.proofs.Told.{nothing-on-port}
 use Rattle.gate_law.proofs.Messages.{reads-sends}
 use Rattle.gate_core.proofs.parts.Parts.message_delivered.Goals as goal
 
@@ -21,17 +22,11 @@ returns-in_err-client_out-clause-grows g c =
     grows-then 3 0 0 0 _ _ _ c.ask.ensures.grows
     (clients-grow c.ask.new.self _ c.told_client.ensures.length c.told_client.ensures.settled refl refl refl)
 
-pub returns-in_err-port_out-clause-grows : goal.returns-in_err-port_out-clause-grows
-returns-in_err-port_out-clause-grows g c =
-    grows-then 3 0 0 0 _ _ _ c.ask.ensures.grows
-    (lines-grow c.ask.new.self _ c.told_client.ensures.length c.told_port.ensures.length c.told_port.ensures.next
-    c.told_client.ensures.settled c.told_port.ensures.settled refl refl)
-
 pub returns-clause-grows : goal.returns-clause-grows
 returns-clause-grows g c =
     grows-then 3 0 0 0 _ _ _ c.ask.ensures.grows
-    (lines-grow c.ask.new.self _ c.told_client.ensures.length c.told_port.ensures.length c.told_port.ensures.next
-    c.told_client.ensures.settled c.told_port.ensures.settled refl refl)
+    (lines-grow c.ask.new.self _ c.told_client.ensures.length c.close_port.ensures.length c.close_port.ensures.next
+    c.told_client.ensures.settled c.close_port.ensures.settled refl refl)
 
 pub returns-clause-step : goal.returns-clause-step
 returns-clause-step g c s v link frame heard =
@@ -48,16 +43,18 @@ returns-clause-step g c s v link frame heard =
     let x : Lists = after_turn s n c.args.at t w in
     let new : Parts _ _ = record {
       clients = c.told_client.new.clients;
-      ports = c.told_port.new.ports;
+      ports = c.close_port.new.ports;
       client_ports =
           c.ask.new.self.client_ports;
       orders = c.ask.new.self.orders;
     } in
     let client_out = map link_out_seen c.in_ok-client_out.client_out.items in
-    let port_out = map link_out_seen c.in_ok-port_out.port_out.items in
+    let port_out = map link_out_seen out.port_outs.items in
     let lines = c.in_ok-client_out.ensures.outs x.client_link asked.parts.client_links in
-    let packets = c.in_ok-port_out.ensures.outs x.port_link asked.parts.port_links
-    ∙ ap (λ (k : ℕ). to_port (x.port_link k) [] ++ map link_out_seen out.port_outs.items) is in
+    let packets = ap (λ (first : List LinkOut). first ++ port_out) (nothing-on-port (x.port_link p)) in
+    let links = subst (λ (outs : List batch.LinkOut). PortLinks (unlinked (port + 1) (map link_out_seen outs) x.port_link)
+    c.close_port.new.ports.lines.items) c.deref.ensures.value
+    (c.close_port.ensures.links x.port_link asked.parts.port_links) in
     subst (λ (b : Batch). Stepped s (ClientMessage n link c.args.at frame) b v new)
     (sym (c.of_parts.ensures
     ∙ ap (λ (k : ℕ). batch_of k out.issues.reports.items client_out c.at_place-port.result port_out None)
@@ -68,7 +65,6 @@ returns-clause-step g c s v link frame heard =
     reads-sends heard.on heard.app_is heard.said_is heard.linked asked lines packets
     (c.told_client.ensures.leave s x.client_calls asked.parts.clients)
     (c.in_ok-client_out.ensures.links x.client_link asked.parts.client_links) c.told_client.ensures.length
-    (c.told_port.ensures.leave s x.port_calls asked.parts.ports)
-    (subst (λ (k : ℕ). PortLinks (unlinked k port_out x.port_link) new.ports.lines.items) is
-    (c.in_ok-port_out.ensures.links x.port_link asked.parts.port_links))
-    c.told_port.ensures.length refl refl)
+    (c.close_port.ensures.leave s x.port_calls asked.parts.ports)
+    (subst (λ (k : ℕ). PortLinks (unlinked k port_out x.port_link) new.ports.lines.items) is links)
+    c.close_port.ensures.length refl refl)
