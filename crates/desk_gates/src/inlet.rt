@@ -108,9 +108,14 @@ impl<'p, 'a, W: Prompt + Drop, G: Gate + Drop, K: DeskName, S: BuildHasher + Dro
         if !event.is_from(&self.inlet.source()) {
             return Err(event);
         }
-        self.inlet.put(event)?;
-        self.owed = self.owed.saturating_add(1).min(MOST_TURNS);
-        Ok(())
+        // Not by `?`: an event is large, and one that isn't given back is moved no further.
+        match self.inlet.put(event) {
+            Ok(()) => {
+                self.owed = self.owed.saturating_add(1).min(MOST_TURNS);
+                Ok(())
+            }
+            Err(back) => Err(back),
+        }
     }
 
     /// Nothing comes out of an inlet.

@@ -72,6 +72,45 @@ impl<'a, K: DeskName, S: BuildHasher + Drop> OutletGate<'a, K, S> {
     }
 }
 
+impl<'a, K: DeskName, S: BuildHasher + Drop> OutletGate<'a, K, S> {
+    ghost use Rattle.std.specs.Prelude.{◌≡◌, ◌++◌, ◌∷◌, [], map, IfNone, IfSome};
+    ghost use Rattle.gate_events.specs.Seen.{link_out_seen};
+    ghost use Rattle.desk_gates.specs.Since.{took_since};
+
+    /// Its queue is empty: what makes a client's messages wait until then is let go.
+    fn note_empty(&mut self)
+        ensures outlet { self.new.outlet ≡ self.old.outlet }
+        ensures first { self.new.first ≡ self.old.first }
+    {
+        self.in_a_row = 0;
+        if self.is_behind_long {
+            self.is_behind_long = false;
+            self.owed = FULL;
+        }
+    }
+
+    /// Takes the next list, where there is one: in a function of its own, since each that holds a list pays for its
+    /// size.
+    fn take_next(&mut self) -> Option<ShortList<LinkOut>>
+        ensures taken { IfSome result (λ outs. took_since self.new.first.value self.new.outlet
+            ≡ took_since self.old.first.value self.old.outlet ++ map link_out_seen outs.items ∷ []) }
+        ensures none { IfNone result (took_since self.new.first.value self.new.outlet
+            ≡ took_since self.old.first.value self.old.outlet) }
+    {
+        let Some(output) = self.outlet.take() else {
+            self.note_empty();
+            return None;
+        };
+        self.is_behind_long = self.is_behind_long || more_places(&output) > 0;
+        self.in_a_row = self.in_a_row.saturating_add(1);
+        if self.in_a_row >= FULL {
+            self.in_a_row = 0;
+            self.owed = FULL;
+        }
+        Some(output.into_outs())
+    }
+}
+
 impl<'a, K: DeskName, S: BuildHasher + Drop> Gate for OutletGate<'a, K, S> {
     ghost use Rattle.std.specs.Prelude.{[], Some};
     ghost use Rattle.desk_gates.specs.Since.{took_since};
@@ -94,21 +133,11 @@ impl<'a, K: DeskName, S: BuildHasher + Drop> Gate for OutletGate<'a, K, S> {
     }
 
     fn take(&mut self) -> Option<ShortList<LinkOut>> {
-        let Some(output) = self.outlet.take() else {
-            self.in_a_row = 0;
-            if self.is_behind_long {
-                self.is_behind_long = false;
-                self.owed = FULL;
-            }
+        if self.outlet.queued() == 0 {
+            self.note_empty();
             return None;
-        };
-        self.is_behind_long = self.is_behind_long || more_places(&output) > 0;
-        self.in_a_row = self.in_a_row.saturating_add(1);
-        if self.in_a_row >= FULL {
-            self.in_a_row = 0;
-            self.owed = FULL;
         }
-        Some(output.into_outs())
+        self.take_next()
     }
 
     /// Turns the desk once if a turn is owed; where that steps nothing, nothing waits, and none is owed any more. It
