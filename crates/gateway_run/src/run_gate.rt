@@ -211,9 +211,14 @@ impl<'a, G: Gate, K: DeskName, R: Wait + Clock + Eprint> Gate for RunGate<'a, G,
             return Err(event);
         };
         self.look(&event);
-        self.gate.put(event)?;
-        self.resends = resends;
-        Ok(())
+        // Not by `?`: an event is large, and one that isn't given back is moved no further.
+        match self.gate.put(event) {
+            Ok(()) => {
+                self.resends = resends;
+                Ok(())
+            }
+            Err(back) => Err(back),
+        }
     }
 
     fn take(&mut self) -> Option<ShortList<LinkOut>> {
