@@ -110,6 +110,7 @@ fn hear_on_order(
 }
 
 /// The result of a row's answer on an order.
+#[inline(always)]
 fn answer_of(
     alloc: Global,
     order: &Order,
