@@ -93,6 +93,7 @@ pub fn told_out(
 }
 
 /// Adds the output of a port's session to its link, if there is one.
+#[inline(always)]
 pub(crate) fn tell_port(
     alloc: Global,
     link: Option<u64>,

@@ -18,6 +18,7 @@ use std::alloc::{AllocError, Global};
 
 /// The output of a client's session in one call, and then other output to the client, to its current link; if that
 /// closes the link, it is current no more.
+#[inline(always)]
 pub fn told_client(
     clients: &mut Clients,
     alloc: Global,
@@ -68,6 +69,7 @@ fn told_both(
 
 /// The output of a port's session in one call, and then other output to the port, to its current link; if that closes
 /// the link, it is current no more.
+#[inline(always)]
 pub fn told_port(
     ports: &mut Ports,
     alloc: Global,
