@@ -105,6 +105,7 @@ impl<S: BuildHasher + Drop> Parts<S> {
     }
 
     /// Sends messages on a port, in order; none if it isn't up.
+    #[inline(always)]
     pub(crate) fn send(
         &mut self,
         alloc: Global,
