@@ -26,6 +26,7 @@ pub struct Terms {
 }
 
 /// The terms that fields say. A growth for each long text.
+#[inline(always)]
 pub fn terms_at(alloc: Global, fields: &Fields) -> Result<Terms, AllocError>
     requires there { is_some (first_value 38 fields.now) ≡ true }
     requires quantity { passes formats.Float (first_value 38 fields.now) ≡ true }
