@@ -65,6 +65,7 @@ impl KeptBodies {
 
     /// The next number was given to the body whose fields are this text, which was first sent, or issued, at this
     /// moment. `AllocError` leaves all as it was. Two growths at most.
+    #[inline(always)]
     pub fn keep(&mut self, kind: Kind, body: &[u8], at: u64) -> Result<(), AllocError>
         requires { PrintsFields body.now }
         ensures ok { OnOk result (self.new

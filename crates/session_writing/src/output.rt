@@ -120,6 +120,7 @@ fn printed_frame(
 
 /// The fields of a frame before its body, in a text with room for a body of this size. One growth, where the names
 /// have 60 bytes at most.
+#[inline(always)]
 pub(crate) fn printed_front(
     alloc: Global,
     room: usize,
